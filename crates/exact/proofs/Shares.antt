@@ -1,0 +1,98 @@
+-- A row's shares of an amount, in proportion to weights: rounded down they sum to at most the amount, rounded up to at
+-- least it, and each rounding is worth less than a cent.
+use mathlib.Core.Path.{_≡_, refl, ap, _∙_}
+use mathlib.Core.Logic.{⊎-elim}
+use Prim.Native.Nat.{ℕ, zero, suc, _+_, _-_, _*_, _/_, _≤_, _<_, min}
+use native.Mathlib.Nat.{div-mul-le-self, lt-div-mul-add, add-mul, mul-one, le-of-mul-le-mul-right, lt-of-mul-lt-mul-right, div-le-of-le-mul, mul-le-mul-left, mul-comm, mul-zero, eq-zero-or-pos}
+use native.Mathlib.Omega.{arith}
+use Rattle.exact.specs.Rows.{sum}
+use Rattle.exact.specs.Division.{ceilDiv}
+use Rattle.exact.proofs.RowLaws.{sum-mono, sum-add, sum-const, sum-times, sum-term, sum-some}
+use Rattle.exact.proofs.Ceiling.{ceil-ge, ceil-lt, ceil-zero}
+
+-- where each term passes by at most c times its count, the sum does by at most c times all counts
+sum-slack : (f g k : ℕ → ℕ) (c n : ℕ) → ((i : ℕ) → i < n → f i ≤ g i + k i * c) → sum f n ≤ sum g n + sum k n * c
+sum-slack f g k c n h =
+    omega (arith, sum-mono f (λ i. g i + k i * c) n h, sum-add g (λ i. k i * c) n, sum-times k c n)
+
+module _ (w : ℕ → ℕ) (money n : ℕ) (some : 0 < sum w n) where
+  -- 01's share of a tier that is not met: at most the weight
+  pub floor-le-weight : money ≤ sum w n → (i : ℕ) → w i * money / sum w n ≤ w i
+  floor-le-weight h i =
+      div-le-of-le-mul (sum w n) (omega (arith, mul-le-mul-left (w i) h, mul-comm (w i) (sum w n)))
+
+  pub floor-sum-le : sum (λ i. w i * money / sum w n) n ≤ money
+  floor-sum-le = le-of-mul-le-mul-right (omega (
+    arith,
+    sum-mono (λ i. w i * money / sum w n * sum w n) (λ i. w i * money) n (λ i _. div-mul-le-self _ _),
+    sum-times (λ i. w i * money / sum w n) (sum w n) n,
+    sum-times w money n,
+  )) some
+
+  -- what the shares leave over is at most n - 1
+  pub floor-sum-near : money ≤ sum (λ i. w i * money / sum w n) n + (n - 1)
+  floor-sum-near =
+      let l : money < sum (λ i. w i * money / sum w n) n + n =
+      lt-of-mul-lt-mul-right (sum w n) (omega (
+        arith,
+        sum-slack (λ i. w i * money + 1) (λ i. w i * money / sum w n * sum w n) (λ i. 1) (sum w n) n
+            (λ i _. omega (arith, lt-div-mul-add {a = w i * money} some)),
+        sum-add (λ i. w i * money) (λ i. 1) n,
+        sum-const 1 n,
+        ap (λ (k : ℕ). k * sum w n) (sum-const 1 n ∙ mul-one n),
+        sum-some w n some,
+        sum-times (λ i. w i * money / sum w n) (sum w n) n,
+        sum-times w money n,
+        add-mul (sum (λ i. w i * money / sum w n) n) n (sum w n),
+      )) in
+      omega arith
+
+module _ (w : ℕ → ℕ) (d n : ℕ) (some : 0 < sum w n) where
+  -- how many weights are not 0
+  abbrev pub weighted : ℕ
+  weighted = sum (λ i. min (w i) 1) n
+
+  pub ceil-sum-ge : d ≤ sum (λ i. ceilDiv (d * w i) (sum w n)) n
+  ceil-sum-ge = le-of-mul-le-mul-right (omega (
+    arith,
+    sum-mono (λ i. w i * d) (λ i. ceilDiv (d * w i) (sum w n) * sum w n) n (λ i _. omega (arith, ceil-ge (d * w i) (sum w n) some)),
+    sum-times (λ i. ceilDiv (d * w i) (sum w n)) (sum w n) n,
+    sum-times w d n,
+  )) some
+
+  -- a weight of 0 has nothing to round
+  rounding : (i : ℕ) → i < n → ceilDiv (d * w i) (sum w n) * sum w n + min (w i) 1 ≤ w i * d + min (w i) 1 * sum w n
+  rounding i h =
+      ⊎-elim
+      (λ (z : w i ≡ 0). rw (z, mul-zero d, ceil-zero 0 (sum w n) some refl) (omega arith))
+      (λ (p : 0 < w i).
+      let one : min (w i) 1 ≡ 1 = omega arith in
+      rw one (omega (arith, ceil-lt (d * w i) (sum w n) some)))
+      (eq-zero-or-pos (w i))
+
+  within : (i : ℕ) → i < n → w i ≤ min (w i) 1 * sum w n
+  within i h =
+      ⊎-elim (λ (z : w i ≡ 0). omega arith)
+      (λ (p : 0 < w i). let one : min (w i) 1 ≡ 1 = omega arith in rw one (omega (arith, sum-term w n i h)))
+      (eq-zero-or-pos (w i))
+
+  weighted-some : 0 < weighted
+  weighted-some =
+      ⊎-elim
+      (λ (z : weighted ≡ 0). absurd (omega (arith, sum-times (λ i. min (w i) 1) (sum w n) n, ap (λ (k : ℕ). k * sum w n) z, sum-mono w (λ i. min (w i) 1 * sum w n) n within)))
+      (λ p. p)
+      (eq-zero-or-pos weighted)
+
+  pub ceil-sum-near : sum (λ i. ceilDiv (d * w i) (sum w n)) n ≤ d + (weighted - 1)
+  ceil-sum-near =
+      let l : sum (λ i. ceilDiv (d * w i) (sum w n)) n < d + weighted =
+      lt-of-mul-lt-mul-right (sum w n) (omega (
+        arith,
+        sum-slack (λ i. ceilDiv (d * w i) (sum w n) * sum w n + min (w i) 1) (λ i. w i * d) (λ i. min (w i) 1) (sum w n) n rounding,
+        sum-add (λ i. ceilDiv (d * w i) (sum w n) * sum w n) (λ i. min (w i) 1) n,
+        weighted-some,
+        sum-times (λ i. ceilDiv (d * w i) (sum w n)) (sum w n) n,
+        sum-times w d n,
+        add-mul d weighted (sum w n),
+      )) in
+      omega arith
