@@ -1,0 +1,28 @@
+-- The ten starred examples come out by computation.
+use mathlib.Core.Path.{refl}
+use Rattle.exact.specs.Rows.{sum, largest, table}
+use Rattle.exact.specs.Division.{ceilDiv}
+use Rattle.exact.specs.Energy.{energyCents}
+use Rattle.settlement.specs.Month.{overTiers}
+use Rattle.settlement.specs.Notice.{gives, shortfall, othersTier5, retention, payable, fullClaim}
+use Rattle.settlement.specs.Claims.{unpaid, setOff, arrears, claim}
+use Rattle.settlement.specs.Tiers.{share, leftFor, tierShare, met}
+use Rattle.settlement.specs.Rounds.{weight, loss, round, run, spread}
+use Rattle.settlement.specs.Settling.{available, revised, scaled, scaledBelow, deficit, spent, rounds, paid, held}
+use Rattle.settlement.specs.Late.{fill, shortage, latePayment}
+use Rattle.settlement.specs.Examples.{Examples}
+
+pub examples : Examples
+unfolding sum largest table ceilDiv energyCents overTiers gives shortfall othersTier5 retention payable fullClaim unpaid setOff arrears claim share leftFor tierShare met weight loss round run spread available revised scaled scaledBelow deficit spent rounds paid held fill shortage latePayment
+examples = record {
+  energy-up = refl;
+  energy-down = refl;
+  energy-half = refl;
+  energy-none = refl;
+  noticeA = (refl, refl);
+  settledA = (refl, refl, refl);
+  late-A = (refl, refl);
+  noticeB = (refl, refl);
+  settledB = (refl, refl, refl, refl);
+  two-rounds = (refl, refl);
+}

@@ -1,0 +1,194 @@
+-- Laws of the rounds: they end, they take what they take from the balances, and their rounding up is worth at most n - 1.
+use mathlib.Core.Path.{_≡_, refl, ap, sym, _∙_}
+use mathlib.Core.Logic.{_⊎_, inl, inr, ⊎-elim}
+use mathlib.Core.Bool.{cond}
+use Prim.Native.Nat.{ℕ, zero, suc, _+_, _-_, _*_, _≤_, _<_, min}
+use native.Mathlib.Nat.{le-trans, eq-zero-or-pos, mul-zero}
+use native.Mathlib.Omega.{arith}
+use lib.Dec.{eqb}
+use borrow.Author.Tests.{eq-eqb, ne-eqb}
+use Rattle.exact.specs.Rows.{sum}
+use Rattle.exact.specs.Division.{ceilDiv}
+use Rattle.exact.proofs.Cases.{cases-eq, le-or-lt}
+use Rattle.exact.proofs.Ceiling.{ceil-zero}
+use Rattle.exact.proofs.RowLaws.{sum-cong, sum-mono, sum-add, sum-const, sum-term, sum-zero, sum-same-or-less}
+use Rattle.exact.proofs.Shares.{weighted, ceil-sum-ge, ceil-sum-near}
+use Rattle.settlement.specs.Rounds.{Standing, weight, loss, round, run, spread}
+
+module _ (n : ℕ) (v : ℕ → ℕ) where
+  -- 1 for each balance that is positive, and how many are
+  abbrev positive : Standing → ℕ → ℕ
+  positive s i = min (s .balance i) 1
+
+  unfoldable pub positives : Standing → ℕ
+  positives s = sum (positive s) n
+
+  -- no balance is above its revised amount
+  abbrev pub Backed : Standing → Type 0
+  Backed s = (i : ℕ) → i < n → s .balance i ≤ v i
+
+  -- one round, with some balance positive
+  module _ (s : Standing) (backed : Backed s) (some : 0 < sum (s .balance) n) where
+    weight-ge : (i : ℕ) → i < n → s .balance i ≤ weight v (s .balance) i
+    unfolding weight
+    weight-ge i h = cases-eq (λ z. s .balance i ≤ z) (s .balance i) 0 (λ e. omega arith) (λ _. backed i h)
+
+    -- W is not 0
+    pub weights-some : 0 < sum (weight v (s .balance)) n
+    weights-some = omega (arith, sum-mono (s .balance) (weight v (s .balance)) n weight-ge)
+
+    abbrev shareOf : ℕ → ℕ
+    shareOf i = ceilDiv (s .deficit * weight v (s .balance) i) (sum (weight v (s .balance)) n)
+
+    -- nobody loses more than its balance
+    pub kept : sum (round n v s .balance) n + sum (loss n v (s .balance) (s .deficit)) n ≡ sum (s .balance) n
+    unfolding round loss
+    kept = sym (sum-add (round n v s .balance) (loss n v (s .balance) (s .deficit)) n) ∙ sum-cong (λ i. round n v s .balance i + loss n v (s .balance) (s .deficit) i) (s .balance) n (λ i _. omega arith)
+
+    weighted-le : weighted (weight v (s .balance)) (s .deficit) n weights-some ≤ n
+    weighted-le = omega (arith, sum-const 1 n, sum-mono (λ i. min (weight v (s .balance) i) 1) (λ i. 1) n (λ i _. omega arith))
+
+    -- all lose at most n - 1 above the deficit
+    pub lost-near : sum (loss n v (s .balance) (s .deficit)) n ≤ s .deficit + (n - 1)
+    unfolding loss
+    lost-near = omega (
+      arith,
+      weighted-le,
+      ceil-sum-near (weight v (s .balance)) (s .deficit) n weights-some,
+      sum-mono (loss n v (s .balance) (s .deficit)) shareOf n (λ i _. omega arith),
+    )
+
+    share-spent : (i : ℕ) → s .balance i ≡ 0 → shareOf i ≡ 0
+    unfolding weight
+    share-spent i e =
+        cases-eq (λ z. ceilDiv (s .deficit * z) (sum (weight v (s .balance)) n) ≡ 0) (s .balance i) 0
+        (λ _. ceil-zero _ _ weights-some (mul-zero (s .deficit)))
+        (λ k. absurd (k e))
+
+    -- a balance that stays positive, or was 0, lost its whole share
+    whole : (i : ℕ) → positive (round n v s) i ≡ positive s i → shareOf i ≤ loss n v (s .balance) (s .deficit) i
+    unfolding round loss
+    whole i e =
+        ⊎-elim (λ z. omega (arith, share-spent i z)) (λ (p : 0 < s .balance i). omega arith) (eq-zero-or-pos (s .balance i))
+
+    fewer : (i : ℕ) → i < n → positive (round n v s) i ≤ positive s i
+    unfolding round
+    fewer i h = omega arith
+
+    -- a round that does not end the deficit spends a balance
+    round-spends : sum (loss n v (s .balance) (s .deficit)) n < s .deficit → positives (round n v s) < positives s
+    unfolding positives
+    round-spends more =
+        ⊎-elim
+        (λ e. absurd (omega (arith, ceil-sum-ge (weight v (s .balance)) (s .deficit) n weights-some, sum-mono shareOf (loss n v (s .balance) (s .deficit)) n (λ i h. whole i (e i h)))))
+        (λ less. less)
+        (sum-same-or-less (positive (round n v s)) (positive s) n fewer)
+
+  round-deficit : (s : Standing) → round n v s .deficit ≡ s .deficit - sum (loss n v (s .balance) (s .deficit)) n
+  unfolding round
+  round-deficit s = refl
+
+  round-counts : (s : Standing) → round n v s .rounds ≡ s .rounds + 1
+  unfolding round
+  round-counts s = refl
+
+  pub round-le : (s : Standing) (i : ℕ) → round n v s .balance i ≤ s .balance i
+  unfolding round
+  round-le s i = omega arith
+
+  pub round-backed : (s : Standing) → Backed s → Backed (round n v s)
+  round-backed s backed i h = omega (arith, backed i h, round-le s i)
+
+  -- the rounds stop where the deficit or all balances are 0
+  pub run-done : (k : ℕ) (s : Standing) → s .deficit ≡ 0 → run n v k s ≡ s
+  unfolding run
+  run-done zero s e = refl
+  run-done (suc k) s e = cases-eq (λ z. z ≡ s) (s .deficit) 0 (λ _. refl) (λ k. absurd (k e))
+
+  pub run-spent : (k : ℕ) (s : Standing) → sum (s .balance) n ≡ 0 → run n v k s ≡ s
+  unfolding run
+  run-spent zero s e = refl
+  run-spent (suc k) s e =
+      cases-eq (λ z. z ≡ s) (s .deficit) 0 (λ _. refl) (λ _.
+      cases-eq (λ z. z ≡ s) (sum (s .balance) n) 0 (λ _. refl) (λ k. absurd (k e)))
+
+  pub run-more : (k : ℕ) (s : Standing) → 0 < s .deficit → 0 < sum (s .balance) n → run n v (suc k) s ≡ run n v k (round n v s)
+  unfolding run
+  run-more k s d b = rw (ne-eqb (s .deficit) 0 (λ e. omega arith), ne-eqb (sum (s .balance) n) 0 (λ e. omega arith))
+
+  -- what the rounds come to, from s to r
+  pub record Ended (s r : Standing) : Type 0 where
+    pub done : min (r .deficit) (sum (r .balance) n) ≡ 0
+    pub low : sum (r .balance) n + s .deficit ≤ sum (s .balance) n + r .deficit
+    pub high : sum (s .balance) n ≤ sum (r .balance) n + s .deficit + (n - 1)
+    pub counted : r .rounds ≤ s .rounds + positives s
+
+  none-positive : (s : Standing) → positives s ≤ 0 → sum (s .balance) n ≡ 0
+  unfolding positives
+  none-positive s h = sum-zero (s .balance) n (λ i k. omega (arith, sum-term (positive s) n i k))
+
+  some-positive : (s : Standing) → 0 < sum (s .balance) n → 0 < positives s
+  some-positive s h = ⊎-elim (λ (z : positives s ≡ 0). absurd (omega (arith, none-positive s (omega arith)))) (λ p. p) (eq-zero-or-pos (positives s))
+
+  -- a round that ends the deficit is the last
+  last-round : (k : ℕ) (s : Standing) → Backed s → 0 < sum (s .balance) n → s .deficit ≤ sum (loss n v (s .balance) (s .deficit)) n → Ended s (run n v k (round n v s))
+  last-round k s backed some h =
+      rw (run-done k (round n v s) (omega (arith, round-deficit s)))
+      (omega (arith, round-deficit s, round-counts s, kept s backed some, lost-near s backed some, some-positive s some))
+
+  -- one that does not leaves the rest of the deficit to those after it
+  earlier-round : (s r : Standing) → Backed s → 0 < sum (s .balance) n → sum (loss n v (s .balance) (s .deficit)) n < s .deficit
+      → positives (round n v s) < positives s → Ended (round n v s) r → Ended s r
+  earlier-round s r backed some more fewer e = omega (arith, round-deficit s, round-counts s, kept s backed some)
+
+  run-ended : (k : ℕ) (s : Standing) → Backed s → positives s ≤ k → Ended s (run n v k s)
+  unfolding run
+  run-ended zero s backed h = omega (arith, none-positive s h)
+  run-ended (suc k) s backed h =
+      ⊎-elim
+      (λ (e : s .deficit ≡ 0). rw (run-done (suc k) s e) (omega arith))
+      (λ (d : 0 < s .deficit).
+      ⊎-elim
+      (λ (z : sum (s .balance) n ≡ 0). rw (run-spent (suc k) s z) (omega arith))
+      (λ (b : 0 < sum (s .balance) n). rw (run-more k s d b) (
+      ⊎-elim
+      (λ (all : s .deficit ≤ sum (loss n v (s .balance) (s .deficit)) n). last-round k s backed b all)
+      (λ (more : sum (loss n v (s .balance) (s .deficit)) n < s .deficit).
+      let less = round-spends s backed b more in
+      earlier-round s _ backed b more less (run-ended k (round n v s) (round-backed s backed) (omega arith)))
+      (le-or-lt (s .deficit) (sum (loss n v (s .balance) (s .deficit)) n))))
+      (eq-zero-or-pos (sum (s .balance) n)))
+      (eq-zero-or-pos (s .deficit))
+
+  pub positives-le : (s : Standing) → positives s ≤ n
+  unfolding positives
+  positives-le s = omega (arith, sum-const 1 n, sum-mono (positive s) (λ i. 1) n (λ i _. omega arith))
+
+  pub run-le : (k : ℕ) (s : Standing) (i : ℕ) → run n v k s .balance i ≤ s .balance i
+  unfolding run
+  run-le zero s i = omega arith
+  run-le (suc k) s i =
+      cases-eq (λ (z : Standing). z .balance i ≤ s .balance i) (s .deficit) 0 (λ _. omega arith) (λ _.
+      cases-eq (λ (z : Standing). z .balance i ≤ s .balance i) (sum (s .balance) n) 0 (λ _. omega arith) (λ _.
+      omega (arith, run-le k (round n v s) i, round-le s i)))
+
+  module _ (balance : ℕ → ℕ) (deficit : ℕ) where
+    abbrev pub start : Standing
+    start = record { balance = balance; deficit = deficit; rounds = 0 }
+
+    pub spread-le : (i : ℕ) → spread n v balance deficit .balance i ≤ balance i
+    unfolding spread
+    spread-le i = run-le n start i
+
+    pub spread-none : deficit ≡ 0 → spread n v balance deficit ≡ start
+    unfolding spread
+    spread-none e = run-done n start e
+
+    module _ (backed : Backed start) where
+      pub spread-ended : Ended start (spread n v balance deficit)
+      unfolding spread
+      spread-ended = run-ended n start backed (positives-le start)
+
+      pub spread-rounds : spread n v balance deficit .rounds ≤ n
+      unfolding spread
+      spread-rounds = omega (arith, run-ended n start backed (positives-le start), positives-le start)

@@ -1,0 +1,138 @@
+-- Laws of money that meets tiers in order.
+use mathlib.Core.Path.{_≡_, refl, ap, sym, _∙_}
+use mathlib.Core.Logic.{⊎-elim}
+use Prim.Native.Nat.{ℕ, zero, suc, _+_, _-_, _*_, _/_, _≤_, _<_}
+use native.Mathlib.Nat.{eq-or-lt-of-le, zero-div, mul-zero}
+use native.Mathlib.Omega.{arith}
+use Rattle.exact.specs.Rows.{sum}
+use Rattle.exact.proofs.Cases.{cases-le, le-or-lt}
+use Rattle.exact.proofs.RowLaws.{sum-cong, sum-mono, sum-zero, sum-swap, sum-part, sum-term}
+use Rattle.exact.proofs.Shares.{floor-le-weight, floor-sum-le, floor-sum-near}
+use Rattle.settlement.specs.Month.{tiers, overTiers}
+use Rattle.settlement.specs.Tiers.{share, leftFor, tierShare, met}
+
+-- one tier
+module _ (n : ℕ) (w : ℕ → ℕ) (left : ℕ) where
+  pub share-met : sum w n ≤ left → (i : ℕ) → share n w left i ≡ w i
+  unfolding share
+  share-met h i = cases-le (λ z. z ≡ w i) (sum w n) left (λ _. refl) (λ l. absurd (omega arith))
+
+  share-unmet : left < sum w n → (i : ℕ) → share n w left i ≡ w i * left / sum w n
+  unfolding share
+  share-unmet h i = cases-le (λ z. z ≡ w i * left / sum w n) (sum w n) left (λ l. absurd (omega arith)) (λ _. refl)
+
+  pub share-le : (i : ℕ) → share n w left i ≤ w i
+  unfolding share
+  share-le i = cases-le (λ z. z ≤ w i) (sum w n) left (λ _. omega arith) (λ l. floor-le-weight w left n (omega arith) (omega arith) i)
+
+  -- a tier that is not met shares all but at most n - 1 of what is left
+  pub record Shared : Type 0 where
+    pub within : sum (share n w left) n ≤ left
+    pub near : left ≤ sum (share n w left) n + (n - 1)
+
+  pub share-unmet-total : left < sum w n → Shared
+  share-unmet-total h =
+      let e : sum (share n w left) n ≡ sum (λ i. w i * left / sum w n) n = sum-cong _ _ n (λ i _. share-unmet h i) in
+      omega (arith, floor-sum-le w left n (omega arith), floor-sum-near w left n (omega arith))
+
+  share-nothing : left ≡ 0 → (i : ℕ) → i < n → share n w left i ≡ 0
+  unfolding share
+  share-nothing e i h =
+      cases-le (λ z. z ≡ 0) (sum w n) left
+      (λ l. omega (arith, sum-term w n i h))
+      (λ _. rw (e, mul-zero (w i)) (zero-div (sum w n)))
+
+-- all tiers
+module _ (n : ℕ) (w : ℕ → ℕ → ℕ) where
+  -- what the tiers before t want
+  unfoldable pub wantedBefore : ℕ → ℕ
+  wantedBefore t = sum (λ s. sum (w s) n) t
+
+  wanted-suc : (t : ℕ) → wantedBefore (suc t) ≡ wantedBefore t + sum (w t) n
+  unfolding wantedBefore sum
+  wanted-suc t = refl
+
+  pub wanted-mono : (t k : ℕ) → t ≤ k → wantedBefore t ≤ wantedBefore k
+  unfolding wantedBefore
+  wanted-mono t k h = sum-part (λ s. sum (w s) n) t k h
+
+  -- over all tiers, what is wanted for all
+  pub wanted-all : wantedBefore tiers ≡ sum (overTiers w) n
+  unfolding wantedBefore overTiers
+  wanted-all = sym (sum-swap w n tiers)
+
+  module _ (money : ℕ) where
+    pub left-is : (t : ℕ) → leftFor n w money t ≡ money - wantedBefore t
+    unfolding leftFor wantedBefore sum
+    left-is zero = omega arith
+    left-is (suc t) = omega (arith, left-is t)
+
+    -- a tier that is met with those before it, and one after the first that is not met
+    pub tier-met : (t : ℕ) → wantedBefore (suc t) ≤ money → (i : ℕ) → tierShare n w money t i ≡ w t i
+    unfolding tierShare
+    tier-met t h i = share-met n (w t) (leftFor n w money t) (omega (arith, wanted-suc t, left-is t)) i
+
+    pub tier-after : (t : ℕ) → money < wantedBefore t → (i : ℕ) → i < n → tierShare n w money t i ≡ 0
+    unfolding tierShare
+    tier-after t h i l = share-nothing n (w t) (leftFor n w money t) (omega (arith, left-is t)) i l
+
+    tier-unmet : (t : ℕ) → leftFor n w money t < sum (w t) n → Shared n (w t) (leftFor n w money t)
+    tier-unmet t h = share-unmet-total n (w t) (leftFor n w money t) h
+
+    pub tier-share-le : (t i : ℕ) → tierShare n w money t i ≤ w t i
+    unfolding tierShare
+    tier-share-le t i = share-le n (w t) (leftFor n w money t) i
+
+    -- what the tiers before k give to all
+    unfoldable givenBefore : ℕ → ℕ
+    givenBefore k = sum (λ t. sum (tierShare n w money t) n) k
+
+    given-suc : (k : ℕ) → givenBefore (suc k) ≡ givenBefore k + sum (tierShare n w money k) n
+    unfolding givenBefore sum
+    given-suc k = refl
+
+    given-met : (k : ℕ) → wantedBefore k ≤ money → givenBefore k ≡ wantedBefore k
+    unfolding givenBefore wantedBefore sum
+    given-met zero h = refl
+    given-met (suc k) h =
+        omega (arith, wanted-suc k, given-met k (omega (arith, wanted-suc k)), sum-cong (tierShare n w money k) (w k) n (λ i _. tier-met k h i))
+
+    record Given (k : ℕ) : Type 0 where
+      pub within : givenBefore k ≤ money
+      pub near : money ≤ givenBefore k + (n - 1)
+
+    given-unmet : (k : ℕ) → money < wantedBefore k → Given k
+    unfolding wantedBefore sum tierShare
+    given-unmet zero h = absurd (omega arith)
+    given-unmet (suc k) h =
+        ⊎-elim
+        (λ (l : wantedBefore k ≤ money).
+        omega (arith, left-is k, given-suc k, given-met k l, tier-unmet k (omega (arith, wanted-suc k, left-is k))))
+        (λ (g : money < wantedBefore k).
+        omega (arith, given-suc k, sum-zero (tierShare n w money k) n (λ i l. tier-after k g i l), given-unmet k g))
+        (le-or-lt (wantedBefore k) money)
+
+    met-total : sum (met n w money) n ≡ givenBefore tiers
+    unfolding met givenBefore overTiers
+    met-total = sum-swap (tierShare n w money) n tiers
+
+    -- what the tiers get is at most the money, and all but at most n - 1 of it where they want as much
+    pub record Met : Type 0 where
+      pub within : sum (met n w money) n ≤ money
+      pub near : money ≤ sum (met n w money) n + (n - 1)
+
+    pub met-near : money ≤ sum (overTiers w) n → Met
+    met-near h =
+        ⊎-elim
+        (λ (e : money ≡ wantedBefore tiers). omega (arith, met-total, given-met tiers (omega arith)))
+        (λ (l : money < wantedBefore tiers). omega (arith, met-total, given-unmet tiers l))
+        (eq-or-lt-of-le (let k : money ≤ wantedBefore tiers = omega (arith, wanted-all) in k))
+
+    pub met-le : (i : ℕ) → met n w money i ≤ overTiers w i
+    unfolding met overTiers
+    met-le i = sum-mono _ _ tiers (λ t _. tier-share-le t i)
+
+    -- money for all that is wanted gives each what it wants
+    pub met-all : sum (overTiers w) n ≤ money → (i : ℕ) → met n w money i ≡ overTiers w i
+    unfolding met overTiers
+    met-all h i = sum-cong _ _ tiers (λ t k. tier-met t (omega (arith, wanted-all, wanted-mono (suc t) tiers k)) i)

@@ -1,0 +1,32 @@
+-- What a notice reckons: retention, payable amounts and full claims (01, Notice; document 000, 1a).
+use Prim.Native.Nat.{ℕ, _+_, _-_, _*_}
+use mathlib.Core.Bool.{cond}
+use lib.Dec.{eqb, leb}
+use Rattle.exact.specs.Rows.{sum, largest}
+use Rattle.exact.specs.Division.{ceilDiv}
+use Rattle.settlement.specs.Month.{Month, owingTo, tier5}
+
+-- what p gives i, with s the shortfall of p, g the tier 5 total of the others and G the tier 5 part of i
+unfoldable pub gives : ℕ → ℕ → ℕ → ℕ
+gives s g G = cond (eqb g 0) 0 (cond (eqb s 0) 0 (cond (leb g s) G (ceilDiv (G * s) g)))
+
+module _ (m : Month) where
+  -- s = max(0, B_p − O_p)
+  unfoldable pub shortfall : ℕ → ℕ
+  shortfall p = m .by p - owingTo m p
+
+  -- g, the sum of G over the others
+  unfoldable pub othersTier5 : ℕ → ℕ
+  othersTier5 p = sum (λ i. cond (eqb i p) 0 (tier5 m i)) (m .n)
+
+  -- A_i, the largest that any p gives i, i itself included
+  unfoldable pub retention : ℕ → ℕ
+  retention i = largest (λ p. gives (shortfall p) (othersTier5 p) (tier5 m i)) (m .n)
+
+  -- P_i = max(0, B_i − O_i + A_i)
+  unfoldable pub payable : ℕ → ℕ
+  payable i = (m .by i + retention i) - owingTo m i
+
+  -- F_i = O_i − B_i + P_i
+  unfoldable pub fullClaim : ℕ → ℕ
+  fullClaim i = (owingTo m i + payable i) - m .by i

@@ -1,0 +1,52 @@
+-- Steps 2 to 5 of settlement (01, Settlement; 14.57 to 14.59).
+use Prim.Native.Nat.{ℕ, _+_, _-_}
+use Rattle.exact.specs.Rows.{sum, cells}
+use Rattle.settlement.specs.Month.{Month, owingTo}
+use Rattle.settlement.specs.Claims.{arrears, claim}
+use Rattle.settlement.specs.Tiers.{met}
+use Rattle.settlement.specs.Rounds.{Standing, spread}
+use Rattle.settlement.specs.declared.settling.Settled.{Settled}
+
+module _ (m : Month) (received : ℕ → ℕ) where
+  -- step 2: available money
+  unfoldable pub available : ℕ
+  available = sum (owingTo m) (m .n) - sum (arrears m received) (m .n)
+
+  -- V_i, the sum of i's revised amounts
+  unfoldable pub revised : ℕ → ℕ
+  revised i = met (m .n) (m .to) available i
+
+  -- step 3: the scaled amount C_i − (O_i − V_i), where it is positive ..
+  unfoldable pub scaled : ℕ → ℕ
+  scaled i = (claim m received i + revised i) - owingTo m i
+
+  -- .. and where it is negative, with its sign turned
+  unfoldable pub scaledBelow : ℕ → ℕ
+  scaledBelow i = owingTo m i - (claim m received i + revised i)
+
+  -- step 4: D
+  unfoldable pub deficit : ℕ
+  deficit = sum scaledBelow (m .n)
+
+  unfoldable pub spent : Standing
+  spent = spread (m .n) revised scaled deficit
+
+  unfoldable pub rounds : ℕ
+  rounds = spent .rounds
+
+  -- step 5: the balances left
+  unfoldable pub paid : ℕ → ℕ
+  paid i = spent .balance i
+
+  -- what a settlement hands on
+  unfoldable pub settled : Settled
+  settled = record {
+    rounds = rounds;
+    claims = cells (claim m received) (m .n);
+    arrears = cells (arrears m received) (m .n);
+    paid = cells paid (m .n);
+  }
+
+-- held money: received − paid
+unfoldable pub held : ℕ → (ℕ → ℕ) → (ℕ → ℕ) → ℕ
+held n received paid = sum received n - sum paid n
