@@ -1,6 +1,6 @@
 -- The laws of sums, of the largest, and of arrays that hold a row.
 use Prim.Native.Nat.{ℕ, zero, suc, _+_, _-_, _*_, _≤_, _<_, max}
-use mathlib.Core.Path.{_≡_, refl, sym, ap, _∙_}
+use mathlib.Core.Path.{_≡_, refl, sym, ap, ap₂, _∙_}
 use mathlib.Core.Logic.{_⊎_, inl, inr, ⊎-elim}
 use mathlib.Core.List.{List, [], _∷_, _++_, append-assoc}
 use native.Mathlib.Omega.{arith}
@@ -185,11 +185,26 @@ module _ (f : ℕ → ℕ) where
   pub cells-again : (n : ℕ) → cells f n ≡ cells (at (cells f n)) n
   cells-again n = cells-cong (at (cells f n)) n (λ i h. sym (cells-at n i h))
 
-  pub sum-cells : (n : ℕ) → sum (at (cells f n)) n ≡ sum f n
-  sum-cells n = sum-cong (at (cells f n)) f n (λ i h. cells-at n i h)
-
   -- a row of zeros
   pub cells-zero : (n : ℕ) → n ≤ places → ((i : ℕ) → i < n → f i ≡ 0) → replicate places 0 ≡ cells f n
   unfolding cells
   cells-zero n h z =
       sym (filled-same f 0 n (replicate places 0) h (λ i k. z i k ∙ sym (getD-replicate {A = ℕ} places i 0 0 (omega arith))))
+
+-- the array a holds the row f below n
+pub record Holds (a : List ℕ) (f : ℕ → ℕ) (n : ℕ) : Type 0 where
+  pub reads : (i : ℕ) → i < n → at a i ≡ f i
+
+pub holds : {a : List ℕ} (f : ℕ → ℕ) (n : ℕ) → a ≡ cells f n → Holds a f n
+holds f n e = record { reads = λ i h. rw e (cells-at f n i h) }
+
+pub holds-own : (a : List ℕ) (n : ℕ) → Holds a (at a) n
+holds-own a n = record { reads = λ _ _. refl }
+
+-- a row that is reckoned cell by cell from two arrays is reckoned from the rows that they hold
+pub cells-both : (op : ℕ → ℕ → ℕ) {a b : List ℕ} {f g : ℕ → ℕ} {n : ℕ} → Holds a f n → Holds b g n
+    → cells (λ i. op (at a i) (at b i)) n ≡ cells (λ i. op (f i) (g i)) n
+cells-both op {n = n} p q = cells-cong _ _ n (λ i h. ap₂ op (p .reads i h) (q .reads i h))
+
+pub sum-holds : {a : List ℕ} {f : ℕ → ℕ} {n : ℕ} → Holds a f n → sum (at a) n ≡ sum f n
+sum-holds {n = n} p = sum-cong _ _ n (p .reads)

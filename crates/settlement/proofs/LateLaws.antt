@@ -26,6 +26,11 @@ module _ (to : ℕ → ℕ → ℕ) (claim paid : ℕ → ℕ) where
   abbrev short : ℕ → ℕ → ℕ
   short = shortage to claim paid
 
+  -- no shortage is above what the tier has
+  pub shortage-le : (t i : ℕ) → shortage to claim paid t i ≤ to t i
+  unfolding shortage fill
+  shortage-le t i = omega arith
+
   -- the tiers of one owner
   abbrev mine : ℕ → ℕ → ℕ
   mine i t = to t i

@@ -4,5 +4,6 @@ pub mod NoticeLaws
 pub mod ClaimLaws
 pub mod TierLaws
 pub mod RoundLaws
+mod Running
 pub mod SettleLaws
 pub mod LateLaws

@@ -1,5 +1,7 @@
 -- Laws of retention, payable amounts and full claims. Of retention nothing is used above but that it is at most G_i.
 use mathlib.Core.Path.{_≡_}
+use mathlib.Core.Bool.{cond}
+use lib.Dec.{eqb}
 use Prim.Native.Nat.{ℕ, _+_, _-_, _*_, _≤_, _<_, max}
 use native.Mathlib.Nat.{mul-le-mul-left}
 use native.Mathlib.Omega.{arith}
@@ -7,7 +9,7 @@ use Rattle.exact.specs.Rows.{sum}
 use Rattle.exact.specs.Division.{ceilDiv}
 use Rattle.exact.proofs.Cases.{cases-eq, cases-le}
 use Rattle.exact.proofs.Ceiling.{ceil-le}
-use Rattle.exact.proofs.RowLaws.{sum-cong, sum-add, largest-le}
+use Rattle.exact.proofs.RowLaws.{sum-cong, sum-mono, sum-add, largest-le}
 use Rattle.settlement.specs.Month.{Month, owingTo, tier5}
 use Rattle.settlement.specs.Notice.{gives, shortfall, othersTier5, retention, payable, fullClaim}
 use Rattle.settlement.proofs.MonthLaws.{tier5-le}
@@ -19,6 +21,14 @@ gives-le s g G =
     cases-eq (λ z. z ≤ G) s 0 (λ _. omega arith) (λ _.
     cases-le (λ z. z ≤ G) g s (λ _. omega arith) (λ less.
     ceil-le (G * s) g (omega arith) G (mul-le-mul-left G (omega arith)))))
+
+-- the others have at most what all have
+pub others-le : (f : ℕ → ℕ) (p n : ℕ) → sum (λ i. cond (eqb i p) 0 (f i)) n ≤ sum f n
+others-le f p n = sum-mono _ f n (λ i _. cases-eq (λ z. z ≤ f i) i p (λ _. omega arith) (λ _. omega arith))
+
+pub others-tier5-le : (m : Month) (p : ℕ) → othersTier5 m p ≤ sum (tier5 m) (m .n)
+unfolding othersTier5
+others-tier5-le m p = others-le (tier5 m) p (m .n)
 
 module _ (m : Month) (i : ℕ) where
   -- A_i ≤ G_i

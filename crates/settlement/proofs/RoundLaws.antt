@@ -1,7 +1,7 @@
 -- Laws of the rounds: they end, they take what they take from the balances, and their rounding up is worth at most n - 1.
-use mathlib.Core.Path.{_≡_, refl, ap, sym, _∙_}
+use mathlib.Core.Path.{_≡_, refl, ap, ap₂, sym, _∙_}
 use mathlib.Core.Logic.{_⊎_, inl, inr, ⊎-elim}
-use mathlib.Core.Bool.{cond}
+use mathlib.Core.Bool.{Bool, true, false, cond}
 use Prim.Native.Nat.{ℕ, zero, suc, _+_, _-_, _*_, _≤_, _<_, min}
 use native.Mathlib.Nat.{le-trans, eq-zero-or-pos, mul-zero}
 use native.Mathlib.Omega.{arith}
@@ -14,6 +14,22 @@ use Rattle.exact.proofs.Ceiling.{ceil-zero}
 use Rattle.exact.proofs.RowLaws.{sum-cong, sum-mono, sum-add, sum-const, sum-term, sum-zero, sum-same-or-less}
 use Rattle.exact.proofs.Shares.{weighted, ceil-sum-ge, ceil-sum-near}
 use Rattle.settlement.specs.Rounds.{Standing, weight, loss, round, run, spread}
+
+pub weight-le : (v balance : ℕ → ℕ) (i : ℕ) → weight v balance i ≤ v i
+unfolding weight
+weight-le v balance i = cases-eq (λ z. z ≤ v i) (balance i) 0 (λ _. omega arith) (λ _. omega arith)
+
+-- nobody loses more than its balance
+pub loss-le : (n : ℕ) (v balance : ℕ → ℕ) (deficit i : ℕ) → loss n v balance deficit i ≤ balance i
+unfolding loss
+loss-le n v balance deficit i = omega arith
+
+-- losses go by the revised amounts and the balances below n
+pub loss-cong : (n : ℕ) (v u f g : ℕ → ℕ) (deficit : ℕ) → ((i : ℕ) → i < n → v i ≡ u i) → ((i : ℕ) → i < n → f i ≡ g i)
+    → (i : ℕ) → i < n → loss n v f deficit i ≡ loss n u g deficit i
+unfolding loss weight
+loss-cong n v u f g deficit a b i l =
+    rw (sum-cong (weight v f) (weight u g) n (λ j k. ap₂ (λ (x y : ℕ). cond (eqb x 0) 0 y) (b j k) (a j k)), a i l, b i l)
 
 module _ (n : ℕ) (v : ℕ → ℕ) where
   -- 1 for each balance that is positive, and how many are
@@ -40,8 +56,8 @@ module _ (n : ℕ) (v : ℕ → ℕ) where
     abbrev shareOf : ℕ → ℕ
     shareOf i = ceilDiv (s .deficit * weight v (s .balance) i) (sum (weight v (s .balance)) n)
 
-    -- nobody loses more than its balance
-    pub kept : sum (round n v s .balance) n + sum (loss n v (s .balance) (s .deficit)) n ≡ sum (s .balance) n
+    -- what a round takes, it takes from the balances
+    kept : sum (round n v s .balance) n + sum (loss n v (s .balance) (s .deficit)) n ≡ sum (s .balance) n
     unfolding round loss
     kept = sym (sum-add (round n v s .balance) (loss n v (s .balance) (s .deficit)) n) ∙ sum-cong (λ i. round n v s .balance i + loss n v (s .balance) (s .deficit) i) (s .balance) n (λ i _. omega arith)
 
@@ -76,7 +92,7 @@ module _ (n : ℕ) (v : ℕ → ℕ) where
     fewer i h = omega arith
 
     -- a round that does not end the deficit spends a balance
-    round-spends : sum (loss n v (s .balance) (s .deficit)) n < s .deficit → positives (round n v s) < positives s
+    pub round-spends : sum (loss n v (s .balance) (s .deficit)) n < s .deficit → positives (round n v s) < positives s
     unfolding positives
     round-spends more =
         ⊎-elim
@@ -84,11 +100,11 @@ module _ (n : ℕ) (v : ℕ → ℕ) where
         (λ less. less)
         (sum-same-or-less (positive (round n v s)) (positive s) n fewer)
 
-  round-deficit : (s : Standing) → round n v s .deficit ≡ s .deficit - sum (loss n v (s .balance) (s .deficit)) n
+  pub round-deficit : (s : Standing) → round n v s .deficit ≡ s .deficit - sum (loss n v (s .balance) (s .deficit)) n
   unfolding round
   round-deficit s = refl
 
-  round-counts : (s : Standing) → round n v s .rounds ≡ s .rounds + 1
+  pub round-counts : (s : Standing) → round n v s .rounds ≡ s .rounds + 1
   unfolding round
   round-counts s = refl
 
@@ -127,7 +143,7 @@ module _ (n : ℕ) (v : ℕ → ℕ) where
   unfolding positives
   none-positive s h = sum-zero (s .balance) n (λ i k. omega (arith, sum-term (positive s) n i k))
 
-  some-positive : (s : Standing) → 0 < sum (s .balance) n → 0 < positives s
+  pub some-positive : (s : Standing) → 0 < sum (s .balance) n → 0 < positives s
   some-positive s h = ⊎-elim (λ (z : positives s ≡ 0). absurd (omega (arith, none-positive s (omega arith)))) (λ p. p) (eq-zero-or-pos (positives s))
 
   -- a round that ends the deficit is the last
@@ -192,3 +208,38 @@ module _ (n : ℕ) (v : ℕ → ℕ) where
       pub spread-rounds : spread n v balance deficit .rounds ≤ n
       unfolding spread
       spread-rounds = omega (arith, run-ended n start backed (positives-le start), positives-le start)
+
+-- two standings that agree below n
+pub record Alike (n : ℕ) (s t : Standing) : Type 0 where
+  pub balances : (i : ℕ) → i < n → s .balance i ≡ t .balance i
+  pub deficits : s .deficit ≡ t .deficit
+  pub counts : s .rounds ≡ t .rounds
+
+-- the rounds go by the revised amounts and the balances below n
+module _ (n : ℕ) (v u : ℕ → ℕ) (same : (i : ℕ) → i < n → v i ≡ u i) where
+  round-alike : (s t : Standing) → Alike n s t → Alike n (round n v s) (round n u t)
+  unfolding round
+  round-alike s t a = record {
+    balances = λ i h. ap₂ _-_ (a .balances i h) (lost i h);
+    deficits = ap₂ _-_ (a .deficits) (sum-cong _ _ n lost);
+    counts = ap (λ (k : ℕ). k + 1) (a .counts);
+  }
+    where
+      lost : (i : ℕ) → i < n → loss n v (s .balance) (s .deficit) i ≡ loss n u (t .balance) (t .deficit) i
+      lost i h = rw (a .deficits) (loss-cong n v u (s .balance) (t .balance) (t .deficit) same (a .balances) i h)
+
+  run-alike : (k : ℕ) (s t : Standing) → Alike n s t → Alike n (run n v k s) (run n u k t)
+  unfolding run
+  run-alike zero s t a = a
+  run-alike (suc k) s t a =
+      rw (ap (λ (d : ℕ). eqb d 0) (a .deficits), ap (λ (d : ℕ). eqb d 0) (sum-cong (s .balance) (t .balance) n (a .balances)))
+      (both (eqb (t .deficit) 0) (eqb (sum (t .balance) n) 0) (run-alike k (round n v s) (round n u t) (round-alike s t a)))
+    where
+      both : (p q : Bool) {s′ t′ : Standing} → Alike n s′ t′ → Alike n (cond p s (cond q s s′)) (cond p t (cond q t t′))
+      both true q b = a
+      both false true b = a
+      both false false b = b
+
+  pub spread-alike : (f g : ℕ → ℕ) (deficit : ℕ) → ((i : ℕ) → i < n → f i ≡ g i) → Alike n (spread n v f deficit) (spread n u g deficit)
+  unfolding spread
+  spread-alike f g deficit h = run-alike n _ _ (record { balances = h; deficits = refl; counts = refl })

@@ -47,6 +47,13 @@ module _ (m : Month) (received : ℕ → ℕ) where
   pub scaled-backed : Backed (m .n) (revised m received) (start (m .n) (revised m received) (scaled m received) (deficit m received))
   scaled-backed i _ = scaled-le-revised i
 
+  pub revised-total-le : sum (revised m received) (m .n) ≤ sum (owingTo m) (m .n)
+  revised-total-le = sum-mono (revised m received) (owingTo m) (m .n) (λ i _. revised-le i)
+
+  pub deficit-le : deficit m received ≤ sum (owingTo m) (m .n)
+  unfolding deficit scaledBelow
+  deficit-le = sum-mono (scaledBelow m received) (owingTo m) (m .n) (λ i _. omega arith)
+
   scaled-total : sum (scaled m received) (m .n) + sum (owingTo m) (m .n) ≡ sum (claim m received) (m .n) + sum (revised m received) (m .n) + deficit m received
   unfolding scaled scaledBelow deficit
   scaled-total = omega (

@@ -4,6 +4,7 @@ use mathlib.Core.Logic.{⊎-elim}
 use Prim.Native.Nat.{ℕ, zero, suc, _+_, _-_, _*_, _/_, _≤_, _<_}
 use native.Mathlib.Nat.{eq-or-lt-of-le, zero-div, mul-zero}
 use native.Mathlib.Omega.{arith}
+use native.Mathlib.Numerals.{add-one}
 use Rattle.exact.specs.Rows.{sum}
 use Rattle.exact.proofs.Cases.{cases-le, le-or-lt}
 use Rattle.exact.proofs.RowLaws.{sum-cong, sum-mono, sum-zero, sum-swap, sum-part, sum-term}
@@ -42,6 +43,11 @@ module _ (n : ℕ) (w : ℕ → ℕ) (left : ℕ) where
       (λ l. omega (arith, sum-term w n i h))
       (λ _. rw (e, mul-zero (w i)) (zero-div (sum w n)))
 
+-- a tier's shares go by what it wants below n
+pub share-cong : (n : ℕ) (f g : ℕ → ℕ) (left : ℕ) → ((i : ℕ) → i < n → f i ≡ g i) → (i : ℕ) → i < n → share n f left i ≡ share n g left i
+unfolding share
+share-cong n f g left h i l = rw (sum-cong f g n h, h i l)
+
 -- all tiers
 module _ (n : ℕ) (w : ℕ → ℕ → ℕ) where
   -- what the tiers before t want
@@ -62,7 +68,15 @@ module _ (n : ℕ) (w : ℕ → ℕ → ℕ) where
   wanted-all = sym (sum-swap w n tiers)
 
   module _ (money : ℕ) where
-    pub left-is : (t : ℕ) → leftFor n w money t ≡ money - wantedBefore t
+    pub left-first : leftFor n w money 0 ≡ money
+    unfolding leftFor
+    left-first = refl
+
+    pub left-more : (t : ℕ) → leftFor n w money (t + 1) ≡ leftFor n w money t - sum (w t) n
+    unfolding leftFor
+    left-more t = rw (add-one t)
+
+    left-is : (t : ℕ) → leftFor n w money t ≡ money - wantedBefore t
     unfolding leftFor wantedBefore sum
     left-is zero = omega arith
     left-is (suc t) = omega (arith, left-is t)
@@ -128,11 +142,33 @@ module _ (n : ℕ) (w : ℕ → ℕ → ℕ) where
         (λ (l : money < wantedBefore tiers). omega (arith, met-total, given-unmet tiers l))
         (eq-or-lt-of-le (let k : money ≤ wantedBefore tiers = omega (arith, wanted-all) in k))
 
-    pub met-le : (i : ℕ) → met n w money i ≤ overTiers w i
+    -- what i gets in the tiers before t, and in all of them
+    pub met-part : (t i : ℕ) → t ≤ tiers → sum (λ s. tierShare n w money s i) t ≤ overTiers w i
+    unfolding overTiers
+    met-part t i h = omega (arith, sum-part (λ s. tierShare n w money s i) t tiers h, sum-mono (λ s. tierShare n w money s i) (λ s. w s i) tiers (λ s _. tier-share-le s i))
+
+    pub met-is : (i : ℕ) → met n w money i ≡ sum (λ s. tierShare n w money s i) tiers
     unfolding met overTiers
-    met-le i = sum-mono _ _ tiers (λ t _. tier-share-le t i)
+    met-is i = refl
+
+    pub met-le : (i : ℕ) → met n w money i ≤ overTiers w i
+    met-le i = rw (met-is i) (met-part tiers i (omega arith))
 
     -- money for all that is wanted gives each what it wants
     pub met-all : sum (overTiers w) n ≤ money → (i : ℕ) → met n w money i ≡ overTiers w i
     unfolding met overTiers
     met-all h i = sum-cong _ _ tiers (λ t k. tier-met t (omega (arith, wanted-all, wanted-mono (suc t) tiers k)) i)
+
+-- the walk goes by what the tiers want below n
+module _ (n : ℕ) (w u : ℕ → ℕ → ℕ) (money : ℕ) (same : (t i : ℕ) → t < tiers → i < n → w t i ≡ u t i) where
+  left-cong : (t : ℕ) → t ≤ tiers → leftFor n w money t ≡ leftFor n u money t
+  unfolding leftFor
+  left-cong zero h = refl
+  left-cong (suc t) h = rw (left-cong t (omega arith), sum-cong (w t) (u t) n (λ i l. same t i (omega arith) l))
+
+  tier-share-cong : (t i : ℕ) → t < tiers → i < n → tierShare n w money t i ≡ tierShare n u money t i
+  unfolding tierShare
+  tier-share-cong t i h l = rw (left-cong t (omega arith)) (share-cong n (w t) (u t) (leftFor n u money t) (λ j k. same t j h k) i l)
+
+  pub met-cong : (i : ℕ) → i < n → met n w money i ≡ met n u money i
+  met-cong i l = met-is n w money i ∙ sum-cong _ _ tiers (λ t h. tier-share-cong t i h l) ∙ sym (met-is n u money i)

@@ -1,7 +1,9 @@
 -- Step 1 of settlement: what each participant has not paid, its set-off, arrears and claim (01, Settlement, step 1).
 use Prim.Native.Nat.{ℕ, _-_, min}
-use Rattle.settlement.specs.Month.{Month}
+use Rattle.exact.specs.Rows.{cells}
+use Rattle.settlement.specs.Month.{Month, owingTo}
 use Rattle.settlement.specs.Notice.{retention, payable, fullClaim}
+use Rattle.settlement.specs.declared.claims.Claimed.{Claimed}
 
 module _ (m : Month) (received : ℕ → ℕ) where
   -- U_i = P_i − received
@@ -17,3 +19,11 @@ module _ (m : Month) (received : ℕ → ℕ) where
   -- C_i
   unfoldable pub claim : ℕ → ℕ
   claim i = fullClaim m i - setOff i
+
+  -- what step 1 hands on
+  unfoldable pub claimed : Claimed
+  claimed = record {
+    owed = cells (owingTo m) (m .n);
+    claims = cells claim (m .n);
+    arrears = cells arrears (m .n);
+  }

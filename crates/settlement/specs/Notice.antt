@@ -2,9 +2,10 @@
 use Prim.Native.Nat.{ℕ, _+_, _-_, _*_}
 use mathlib.Core.Bool.{cond}
 use lib.Dec.{eqb, leb}
-use Rattle.exact.specs.Rows.{sum, largest}
+use Rattle.exact.specs.Rows.{sum, largest, cells}
 use Rattle.exact.specs.Division.{ceilDiv}
 use Rattle.settlement.specs.Month.{Month, owingTo, tier5}
+use Rattle.settlement.specs.declared.notice.Noticed.{Noticed}
 
 -- what p gives i, with s the shortfall of p, g the tier 5 total of the others and G the tier 5 part of i
 unfoldable pub gives : ℕ → ℕ → ℕ → ℕ
@@ -30,3 +31,7 @@ module _ (m : Month) where
   -- F_i = O_i − B_i + P_i
   unfoldable pub fullClaim : ℕ → ℕ
   fullClaim i = (owingTo m i + payable i) - m .by i
+
+  -- what a notice hands on
+  unfoldable pub noticed : Noticed
+  noticed = record { retention = cells retention (m .n); payable = cells payable (m .n) }

@@ -1,9 +1,10 @@
 -- The rounds that take a deficit from positive balances (01, Settlement, step 4; 14.59(4)).
-use Prim.Native.Nat.{ℕ, zero, suc, _+_, _-_, _*_, min}
+use Prim.Native.Nat.{ℕ, zero, suc, _+_, _-_, _*_, _≤_, _<_, min}
 use mathlib.Core.Bool.{cond}
 use lib.Dec.{eqb}
-use Rattle.exact.specs.Rows.{sum}
+use Rattle.exact.specs.Rows.{places, sum}
 use Rattle.exact.specs.Division.{ceilDiv}
+use Rattle.settlement.specs.Month.{sideLimit}
 
 -- where the rounds stand: the balances, the deficit D, and how many rounds have run
 pub record Standing : Type 0 where
@@ -37,3 +38,10 @@ module _ (n : ℕ) (v : ℕ → ℕ) where
   -- the rounds from balances and a deficit: n are as many as can run
   unfoldable pub spread : (ℕ → ℕ) → ℕ → Standing
   spread balance deficit = run n (record { balance = balance; deficit = deficit; rounds = 0 })
+
+-- what the arithmetic of the rounds leans on: no balance is above its revised amount, so that a positive one has a weight
+pub record Backing (n : ℕ) (v balance : ℕ → ℕ) (deficit : ℕ) : Type 0 where
+  pub few : n ≤ places
+  pub backed : (i : ℕ) → i < n → balance i ≤ v i
+  pub revised-total : sum v n ≤ sideLimit
+  pub deficit-bound : deficit ≤ sideLimit

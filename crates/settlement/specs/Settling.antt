@@ -5,6 +5,7 @@ use Rattle.settlement.specs.Month.{Month, owingTo}
 use Rattle.settlement.specs.Claims.{arrears, claim}
 use Rattle.settlement.specs.Tiers.{met}
 use Rattle.settlement.specs.Rounds.{Standing, spread}
+use Rattle.settlement.specs.declared.scaling.Scaled.{Scaled}
 use Rattle.settlement.specs.declared.settling.Settled.{Settled}
 
 module _ (m : Month) (received : ℕ → ℕ) where
@@ -23,6 +24,16 @@ module _ (m : Month) (received : ℕ → ℕ) where
   -- .. and where it is negative, with its sign turned
   unfoldable pub scaledBelow : ℕ → ℕ
   scaledBelow i = owingTo m i - (claim m received i + revised i)
+
+  -- what steps 1 to 3 hand on
+  unfoldable pub scaledAmounts : Scaled
+  scaledAmounts = record {
+    claims = cells (claim m received) (m .n);
+    arrears = cells (arrears m received) (m .n);
+    revised = cells revised (m .n);
+    above = cells scaled (m .n);
+    below = cells scaledBelow (m .n);
+  }
 
   -- step 4: D
   unfoldable pub deficit : ℕ

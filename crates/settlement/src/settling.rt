@@ -1,10 +1,39 @@
-// Settlement.
+// A month's settlement, from its sums, what is payable and what was received, to the cents paid.
+use crate::scaling::scale;
+use crate::spread::spread;
+use crate::tiers::TierCells;
 use exact::rows::Row;
+use exact::rows::total;
+ghost use mathlib.Core.Path.{_≡_};
+ghost use Rattle.exact.specs.Rows.{at, cells};
+ghost use Rattle.settlement.specs.Month.{month, Bounded};
+ghost use Rattle.settlement.specs.Notice.{payable};
+ghost use Rattle.settlement.specs.Settling.{settled};
 
-// What a settlement hands on.
 pub struct Settled {
     pub rounds: u64,
     pub claims: Row,
     pub arrears: Row,
     pub paid: Row,
+}
+
+pub fn settle(by: Row, to: TierCells, payables: Row, received: Row, n: usize) -> Settled
+    requires { ⌜ Bounded (month n by to) × (payables ≡ cells (payable (month n by to)) n) ⌝ }
+    ensures { λ r. ⌜ r ≡ settled (month n by to) (at received) ⌝ }
+{
+    let s = scale(by, to, payables, received, n);
+    let above = s.above;
+    let below = s.below;
+    let revised = s.revised;
+    let deficit = total(below, n);
+    let left = spread(above, deficit, revised, n);
+    let claims = s.claims;
+    let arrears = s.arrears;
+    let paid = left.balances;
+    Settled {
+        rounds: left.rounds,
+        claims,
+        arrears,
+        paid,
+    }
 }

@@ -1,0 +1,66 @@
+use borrow.Author.Needs.{needs}
+use Prim.Native.Nat.{ℕ, _-_, _+_, _≤_, _<_}
+use mathlib.Core.Path.{_≡_, sym, ap, _∙_}
+use native.Mathlib.Omega.{arith}
+use Rattle.exact.specs.Rows.{at, largest}
+use Rattle.exact.proofs.RowLaws.{largest-none, largest-more}
+use Rattle.settlement.specs.Notice.{gives}
+use Rattle.settlement.proofs.retention.largest_gift.Statement.{statement}
+use Rattle.settlement.proofs.retention.largest_gift.Tie as tie
+
+abbrev Inv-loop : tie.InvT-loop
+Inv-loop part n shortfalls others most₀ p₀ most p = (p ≤ n) × (most ≡ largest (λ k. gives (at shortfalls k) (at others k) part) p)
+
+abbrev μ-loop : tie.MeasureT-loop
+μ-loop part n shortfalls others most₀ p₀ most p = n - p
+
+loop-holds : tie.Need-loop-holds Inv-loop μ-loop
+loop-holds c = (search needs, sym (largest-none _))
+
+mul-gift : tie.Need-mul-gift Inv-loop μ-loop
+mul-gift c = search needs
+
+array-read-gift : tie.Need-array-read-gift Inv-loop μ-loop
+array-read-gift c = search needs
+
+mul-gift-2 : tie.Need-mul-gift-2 Inv-loop μ-loop
+mul-gift-2 c = search needs
+
+array-read-gift-2 : tie.Need-array-read-gift-2 Inv-loop μ-loop
+array-read-gift-2 c = search needs
+
+gift-requires : tie.Need-gift-requires Inv-loop μ-loop
+gift-requires c κs = (c .before .before .pre .2 (c .before .loop .p) (omega arith), c .before .before .pre .1)
+
+larger-requires : tie.Need-larger-requires Inv-loop μ-loop
+larger-requires c κs = search needs
+
+add-p : tie.Need-add-p Inv-loop μ-loop
+add-p c = search needs
+
+loop-less : tie.Need-loop-less Inv-loop μ-loop
+loop-less c = search needs
+
+loop-again : tie.Need-loop-again Inv-loop μ-loop
+loop-again c = (search needs, rw (c .larger .ensures, largest-more, c .before .before .before .loop .inv .1, c .before .gift .ensures))
+
+returns : tie.Need-returns Inv-loop μ-loop
+returns c = c .before .loop .inv .1 ∙ ap (largest _) (omega arith)
+
+pub largest-gift-spec : {M : Type 1} → statement M
+largest-gift-spec =
+    tie.close
+    (tie.spec
+    Inv-loop
+    μ-loop
+    loop-holds
+    mul-gift
+    array-read-gift
+    mul-gift-2
+    array-read-gift-2
+    gift-requires
+    larger-requires
+    add-p
+    loop-less
+    loop-again
+    returns)

@@ -1,0 +1,37 @@
+// Step 1 of settlement: what is unpaid, set off against retention, in arrears, and what each participant can claim.
+use crate::tiers::TierCells;
+use crate::tiers::over_tiers;
+use exact::rows::Row;
+use exact::rows::excesses;
+use exact::rows::minima;
+use exact::rows::sums;
+ghost use mathlib.Core.Path.{_≡_};
+ghost use Rattle.exact.specs.Rows.{at, cells};
+ghost use Rattle.settlement.specs.Month.{month, Bounded};
+ghost use Rattle.settlement.specs.Notice.{payable};
+ghost use Rattle.settlement.specs.Claims.{claimed};
+
+pub struct Claimed {
+    pub owed: Row,
+    pub claims: Row,
+    pub arrears: Row,
+}
+
+// Where anything is unpaid the full claim is the retention, so the set-off needs no retention reckoned anew.
+pub fn claim(by: Row, to: TierCells, payables: Row, received: Row, n: usize) -> Claimed
+    requires { ⌜ Bounded (month n by to) × (payables ≡ cells (payable (month n by to)) n) ⌝ }
+    ensures { λ r. ⌜ r ≡ claimed (month n by to) (at received) ⌝ }
+{
+    let owed = over_tiers(to, n);
+    let covered = sums(owed, payables, n);
+    let full = excesses(covered, by, n);
+    let unpaid = excesses(payables, received, n);
+    let set_off = minima(unpaid, full, n);
+    let arrears = excesses(unpaid, set_off, n);
+    let claims = excesses(full, set_off, n);
+    Claimed {
+        owed,
+        claims,
+        arrears,
+    }
+}

@@ -1,0 +1,45 @@
+// Steps 1 to 3 of settlement: claims, revised amounts from the available money, and scaled amounts.
+use crate::claims::claim;
+use crate::tiers::TierCells;
+use crate::walk::meet_tiers;
+use exact::numbers::excess;
+use exact::rows::Row;
+use exact::rows::excesses;
+use exact::rows::sums;
+use exact::rows::total;
+ghost use mathlib.Core.Path.{_≡_};
+ghost use Rattle.exact.specs.Rows.{at, cells};
+ghost use Rattle.settlement.specs.Month.{month, Bounded};
+ghost use Rattle.settlement.specs.Notice.{payable};
+ghost use Rattle.settlement.specs.Settling.{scaledAmounts};
+
+// Scaled amounts are in two rows: `above` where they are positive, `below`, with the sign turned, where they are negative.
+pub struct Scaled {
+    pub claims: Row,
+    pub arrears: Row,
+    pub revised: Row,
+    pub above: Row,
+    pub below: Row,
+}
+
+pub fn scale(by: Row, to: TierCells, payables: Row, received: Row, n: usize) -> Scaled
+    requires { ⌜ Bounded (month n by to) × (payables ≡ cells (payable (month n by to)) n) ⌝ }
+    ensures { λ r. ⌜ r ≡ scaledAmounts (month n by to) (at received) ⌝ }
+{
+    let c = claim(by, to, payables, received, n);
+    let owed = c.owed;
+    let claims = c.claims;
+    let arrears = c.arrears;
+    let available = excess(total(owed, n), total(arrears, n));
+    let revised = meet_tiers(to, available, n);
+    let covered = sums(claims, revised, n);
+    let above = excesses(covered, owed, n);
+    let below = excesses(owed, covered, n);
+    Scaled {
+        claims,
+        arrears,
+        revised,
+        above,
+        below,
+    }
+}
