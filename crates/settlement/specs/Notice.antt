@@ -5,7 +5,7 @@ use lib.Dec.{eqb, leb}
 use Rattle.exact.specs.Rows.{sum, largest, cells}
 use Rattle.exact.specs.Division.{ceilDiv}
 use Rattle.settlement.specs.Month.{Month, owingTo, tier5}
-use Rattle.settlement.specs.declared.notice.Noticed.{Noticed}
+use Rattle.settlement.specs.declared.noticing.Noticed.{Noticed}
 
 -- what p gives i, with s the shortfall of p, g the tier 5 total of the others and G the tier 5 part of i
 unfoldable pub gives : ℕ → ℕ → ℕ → ℕ

@@ -1,23 +1,25 @@
 // Step 1 of settlement: what is unpaid, set off against retention, in arrears, and what each participant can claim.
-use crate::tiers::TierCells;
-use crate::tiers::over_tiers;
-use exact::rows::Row;
-use exact::rows::excesses;
-use exact::rows::minima;
-use exact::rows::sums;
+use crate::owing::TierCells;
+use crate::owing::over_tiers;
+use exact::Row;
+use exact::excesses;
+use exact::minima;
+use exact::sums;
 ghost use mathlib.Core.Path.{_≡_};
 ghost use Rattle.exact.specs.Rows.{at, cells};
 ghost use Rattle.settlement.specs.Month.{month, Bounded};
 ghost use Rattle.settlement.specs.Notice.{payable};
 ghost use Rattle.settlement.specs.Claims.{claimed};
 
+// What step 1 hands on.
 pub struct Claimed {
     pub owed: Row,
     pub claims: Row,
     pub arrears: Row,
 }
 
-// Where anything is unpaid the full claim is the retention, so the set-off needs no retention reckoned anew.
+// The claims and arrears of a month. Where anything is unpaid the full claim is the retention, so that the set-off needs
+// no retention reckoned anew.
 pub fn claim(by: Row, to: TierCells, payables: Row, received: Row, n: usize) -> Claimed
     requires { ⌜ Bounded (month n by to) × (payables ≡ cells (payable (month n by to)) n) ⌝ }
     ensures { λ r. ⌜ r ≡ claimed (month n by to) (at received) ⌝ }

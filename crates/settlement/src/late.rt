@@ -1,11 +1,12 @@
 // Late money: what is missing of each claim, tier by tier, and what money pays of it.
-use crate::tiers::TIERS;
-use crate::tiers::TierCells;
-use crate::tiers::tiers_before;
+use crate::owing::TIERS;
+use crate::owing::TierCells;
+use crate::owing::tiers_before;
 use crate::walk::meet_tiers;
-use exact::numbers::excess;
-use exact::numbers::smaller;
-use exact::rows::Row;
+use exact::PLACES;
+use exact::Row;
+use exact::excess;
+use exact::smaller;
 ghost use mathlib.Core.Path.{_≡_};
 ghost use Prim.Native.Nat.{ℕ, _-_, _≤_, _<_, min};
 ghost use Rattle.exact.specs.Rows.{places, at, sum, cells};
@@ -27,7 +28,7 @@ pub fn shortages(to: TierCells, claims: Row, paid: Row, n: usize) -> TierCells
     requires { ⌜ (n ≤ places) × (sum (overTiers (tierAt to)) n ≤ sideLimit) ⌝ }
     ensures { λ r. ⌜ r ≡ tierCells (shortage (tierAt to) (at claims) (at paid)) n ⌝ }
 {
-    let mut out = [0u64; 320];
+    let mut out = [0u64; TIERS * PLACES];
     for k in 0..TIERS * n {
         let i = k / TIERS;
         let before = tiers_before(&to, i, k % TIERS);

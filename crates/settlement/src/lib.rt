@@ -1,10 +1,19 @@
 // One month in whole cents: retention and payable amounts at notice, settlement with its rounds, and late money.
-pub mod claims;
-pub mod late;
-pub mod notice;
-pub mod retention;
-pub mod scaling;
-pub mod settling;
-pub mod spread;
-pub mod tiers;
-pub mod walk;
+mod claims;
+mod late;
+mod noticing;
+mod owing;
+mod retention;
+mod scaling;
+mod settling;
+mod spread;
+mod walk;
+
+pub use late::late_payments;
+pub use noticing::Noticed;
+pub use noticing::notice;
+pub use owing::TIERS;
+pub use owing::TierCells;
+pub use owing::total_over_tiers;
+pub use settling::Settled;
+pub use settling::settle;

@@ -1,8 +1,8 @@
 // Retention: what each participant could lose from tier 5 if one other, or itself, fails.
-use exact::division::proportion_up;
-use exact::numbers::larger;
-use exact::rows::PLACES;
-use exact::rows::Row;
+use exact::PLACES;
+use exact::Row;
+use exact::larger;
+use exact::proportion_up;
 ghost use mathlib.Core.Path.{_≡_};
 ghost use mathlib.Core.Bool.{cond};
 ghost use lib.Dec.{eqb};

@@ -1,19 +1,19 @@
 // Steps 1 to 3 of settlement: claims, revised amounts from the available money, and scaled amounts.
 use crate::claims::claim;
-use crate::tiers::TierCells;
+use crate::owing::TierCells;
 use crate::walk::meet_tiers;
-use exact::numbers::excess;
-use exact::rows::Row;
-use exact::rows::excesses;
-use exact::rows::sums;
-use exact::rows::total;
+use exact::Row;
+use exact::excess;
+use exact::excesses;
+use exact::sums;
+use exact::total;
 ghost use mathlib.Core.Path.{_≡_};
 ghost use Rattle.exact.specs.Rows.{at, cells};
 ghost use Rattle.settlement.specs.Month.{month, Bounded};
 ghost use Rattle.settlement.specs.Notice.{payable};
 ghost use Rattle.settlement.specs.Settling.{scaledAmounts};
 
-// Scaled amounts are in two rows: `above` where they are positive, `below`, with the sign turned, where they are negative.
+// What steps 1 to 3 hand on. Scaled amounts are in two rows: `above` where they are positive, `below`, with the sign turned, where they are negative.
 pub struct Scaled {
     pub claims: Row,
     pub arrears: Row,
@@ -22,6 +22,7 @@ pub struct Scaled {
     pub below: Row,
 }
 
+// The claims, revised amounts and scaled amounts of a month, from its sums, what is payable and what was received.
 pub fn scale(by: Row, to: TierCells, payables: Row, received: Row, n: usize) -> Scaled
     requires { ⌜ Bounded (month n by to) × (payables ≡ cells (payable (month n by to)) n) ⌝ }
     ensures { λ r. ⌜ r ≡ scaledAmounts (month n by to) (at received) ⌝ }

@@ -1,15 +1,16 @@
 // A month's settlement, from its sums, what is payable and what was received, to the cents paid.
+use crate::owing::TierCells;
 use crate::scaling::scale;
 use crate::spread::spread;
-use crate::tiers::TierCells;
-use exact::rows::Row;
-use exact::rows::total;
+use exact::Row;
+use exact::total;
 ghost use mathlib.Core.Path.{_≡_};
 ghost use Rattle.exact.specs.Rows.{at, cells};
 ghost use Rattle.settlement.specs.Month.{month, Bounded};
 ghost use Rattle.settlement.specs.Notice.{payable};
 ghost use Rattle.settlement.specs.Settling.{settled};
 
+// What a settlement hands on.
 pub struct Settled {
     pub rounds: u64,
     pub claims: Row,
@@ -17,6 +18,7 @@ pub struct Settled {
     pub paid: Row,
 }
 
+// The claims, arrears and cents paid of a month, and the rounds that ran.
 pub fn settle(by: Row, to: TierCells, payables: Row, received: Row, n: usize) -> Settled
     requires { ⌜ Bounded (month n by to) × (payables ≡ cells (payable (month n by to)) n) ⌝ }
     ensures { λ r. ⌜ r ≡ settled (month n by to) (at received) ⌝ }

@@ -1,11 +1,11 @@
 // The rounds of step 4: a deficit is taken from the positive balances, in proportion to revised amounts.
-use exact::division::proportion_up;
-use exact::numbers::excess;
-use exact::numbers::smaller;
-use exact::rows::PLACES;
-use exact::rows::Row;
-use exact::rows::excesses;
-use exact::rows::total;
+use exact::PLACES;
+use exact::Row;
+use exact::excess;
+use exact::excesses;
+use exact::proportion_up;
+use exact::smaller;
+use exact::total;
 ghost use mathlib.Core.Path.{_≡_};
 ghost use mathlib.Core.Bool.{cond};
 ghost use lib.Dec.{eqb};

@@ -1,14 +1,14 @@
 // The walk through the tiers: money meets them in order, in settlement and with late money alike.
-use crate::tiers::TIERS;
-use crate::tiers::TierCells;
-use crate::tiers::tier;
-use exact::division::Quotient;
-use exact::division::proportion;
-use exact::numbers::excess;
-use exact::rows::PLACES;
-use exact::rows::Row;
-use exact::rows::sums;
-use exact::rows::total;
+use crate::owing::TIERS;
+use crate::owing::TierCells;
+use crate::owing::tier;
+use exact::PLACES;
+use exact::Quotient;
+use exact::Row;
+use exact::excess;
+use exact::proportion;
+use exact::sums;
+use exact::total;
 ghost use mathlib.Core.Path.{_≡_};
 ghost use mathlib.Core.Bool.{cond};
 ghost use lib.Dec.{leb};

@@ -11,8 +11,8 @@ use Rattle.settlement.specs.Month.{month, owingTo, tier5, lastTier, side
 use Rattle.settlement.specs.Notice.{shortfall, othersTier5, retention, payable, noticed}
 use Rattle.settlement.proofs.MonthLaws.{by-bound, to-bound, tier5-le, tier-total-le}
 use Rattle.settlement.proofs.NoticeLaws.{others-tier5-le, retention-le}
-use Rattle.settlement.proofs.notice.notice.Statement.{statement}
-use Rattle.settlement.proofs.notice.notice.Tie as tie
+use Rattle.settlement.proofs.noticing.notice.Statement.{statement}
+use Rattle.settlement.proofs.noticing.notice.Tie as tie
 
 -- the rows of tier 5, of the others' tier 5 totals, and of retention
 parts : (c : tie.After-tier) → let x = c .before .before .args in Holds (c .tier .result) (tier5 (month (x .n) (x .by) (x .to))) (x .n)
