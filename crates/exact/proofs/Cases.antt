@@ -3,17 +3,14 @@ use mathlib.Core.Path.{_≡_, refl}
 use mathlib.Core.Bool.{Bool, true, false, cond}
 use mathlib.Core.Logic.{_⊎_, inl, inr}
 use Prim.Native.Nat.{ℕ, _≤_, _<_}
-use lib.Dec.{leb, ltb, eqb}
-use borrow.Author.Tests.{leb-true, leb-false, ltb-true, ltb-false, eqb-true, eqb-false}
+use lib.Dec.{leb, eqb}
+use borrow.Author.Tests.{leb-true, leb-false, eqb-true, eqb-false}
 
 -- a fact P about a choice, from P of each of the two values
 module _ {A : Type 0} (P : A → Type 0) {x y : A} where
   cases : (t : Bool) → (t ≡ true → P x) → (t ≡ false → P y) → P (cond t x y)
   cases true h k = h refl
   cases false h k = k refl
-
-  pub cases-lt : (a b : ℕ) → (a < b → P x) → (b ≤ a → P y) → P (cond (ltb a b) x y)
-  cases-lt a b h k = cases (ltb a b) (λ e. h (ltb-true a b e)) (λ e. k (ltb-false a b e))
 
   pub cases-le : (a b : ℕ) → (a ≤ b → P x) → (b < a → P y) → P (cond (leb a b) x y)
   cases-le a b h k = cases (leb a b) (λ e. h (leb-true a b e)) (λ e. k (leb-false a b e))

@@ -6,7 +6,7 @@ use mathlib.Core.List.{List, [], _∷_, _++_, append-assoc}
 use native.Mathlib.Omega.{arith}
 use native.Mathlib.Nat.{eq-or-lt-of-le, le-of-suc-le-suc, not-suc-le-zero, suc-inj, max-le}
 use native.Mathlib.Numerals.{add-one}
-use lib.ListN.{getD, drop, set, length, length-append, length-drop, List·getD-append, replicate, getD-replicate}
+use lib.ListN.{getD, drop, set, length, length-append, List·getD-append, replicate, getD-replicate}
 use lib.Seq.{drop-cons, set-at, getD-at, set-getD}
 use Rattle.exact.specs.Rows.{places, at, sum, largest, table, filled, cells}
 
@@ -15,9 +15,13 @@ module _ (f : ℕ → ℕ) where
   unfolding sum
   sum-none = refl
 
-  pub sum-more : (n : ℕ) → sum f (n + 1) ≡ sum f n + f n
+  pub sum-suc : (n : ℕ) → sum f (suc n) ≡ sum f n + f n
   unfolding sum
-  sum-more n = rw add-one
+  sum-suc n = refl
+
+  -- the same, as a loop counts
+  pub sum-more : (n : ℕ) → sum f (n + 1) ≡ sum f n + f n
+  sum-more n = rw (add-one n) (sum-suc n)
 
   -- a part of the terms sums to at most as much as all of them
   pub sum-part : (n m : ℕ) → n ≤ m → sum f n ≤ sum f m
@@ -142,10 +146,6 @@ module _ {A : Type 0} (f : ℕ → A) where
   filled-more z n d h =
       rw (add-one, drop-cons d n z h)
       (set-at (table f n) (getD d n z) (drop (suc n) d) (f n) n (table-length n) ∙ sym (append-assoc (table f n) (f n ∷ []) (drop (suc n) d)))
-
-  pub filled-length : (n : ℕ) (d : List A) → n ≤ length d → length (filled f n d) ≡ length d
-  unfolding filled
-  filled-length n d h = simp (length-append, length-drop, table-length) (omega arith)
 
   pub filled-at : (n i : ℕ) (d : List A) (z : A) → i < n → getD (filled f n d) i z ≡ f i
   unfolding filled

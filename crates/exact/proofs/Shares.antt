@@ -2,13 +2,18 @@
 -- least it, and each rounding is worth less than a cent.
 use mathlib.Core.Path.{_≡_, refl, ap, _∙_}
 use mathlib.Core.Logic.{⊎-elim}
-use Prim.Native.Nat.{ℕ, zero, suc, _+_, _-_, _*_, _/_, _≤_, _<_, min}
+use Prim.Native.Nat.{ℕ, _+_, _-_, _*_, _/_, _≤_, _<_, min}
 use native.Mathlib.Nat.{div-mul-le-self, lt-div-mul-add, add-mul, mul-one, le-of-mul-le-mul-right, lt-of-mul-lt-mul-right, div-le-of-le-mul, mul-le-mul-left, mul-comm, mul-zero, eq-zero-or-pos}
 use native.Mathlib.Omega.{arith}
 use Rattle.exact.specs.Rows.{sum}
 use Rattle.exact.specs.Division.{ceilDiv}
 use Rattle.exact.proofs.RowLaws.{sum-mono, sum-add, sum-const, sum-times, sum-term, sum-some}
 use Rattle.exact.proofs.Ceiling.{ceil-ge, ceil-lt, ceil-zero}
+
+-- what is given of an amount, all but at most `slack` of it
+pub record Near (given amount slack : ℕ) : Type 0 where
+  pub within : given ≤ amount
+  pub near : amount ≤ given + slack
 
 -- where each term passes by at most c times its count, the sum does by at most c times all counts
 sum-slack : (f g k : ℕ → ℕ) (c n : ℕ) → ((i : ℕ) → i < n → f i ≤ g i + k i * c) → sum f n ≤ sum g n + sum k n * c
@@ -21,18 +26,19 @@ module _ (w : ℕ → ℕ) (money n : ℕ) (some : 0 < sum w n) where
   floor-le-weight h i =
       div-le-of-le-mul (sum w n) (omega (arith, mul-le-mul-left (w i) h, mul-comm (w i) (sum w n)))
 
-  pub floor-sum-le : sum (λ i. w i * money / sum w n) n ≤ money
-  floor-sum-le = le-of-mul-le-mul-right (omega (
-    arith,
-    sum-mono (λ i. w i * money / sum w n * sum w n) (λ i. w i * money) n (λ i _. div-mul-le-self _ _),
-    sum-times (λ i. w i * money / sum w n) (sum w n) n,
-    sum-times w money n,
-  )) some
-
-  -- what the shares leave over is at most n - 1
-  pub floor-sum-near : money ≤ sum (λ i. w i * money / sum w n) n + (n - 1)
-  floor-sum-near =
-      let l : money < sum (λ i. w i * money / sum w n) n + n =
+  -- rounded down, the shares leave at most n - 1 of the money over
+  pub floor-sum : Near (sum (λ i. w i * money / sum w n) n) money (n - 1)
+  floor-sum =
+      let high : sum (λ i. w i * money / sum w n) n ≤ money =
+      le-of-mul-le-mul-right
+      (omega (
+        arith,
+        sum-mono (λ i. w i * money / sum w n * sum w n) (λ i. w i * money) n (λ i _. div-mul-le-self _ _),
+        sum-times (λ i. w i * money / sum w n) (sum w n) n,
+        sum-times w money n,
+      ))
+      some in
+      let low : money < sum (λ i. w i * money / sum w n) n + n =
       lt-of-mul-lt-mul-right (sum w n) (omega (
         arith,
         sum-slack (λ i. w i * money + 1) (λ i. w i * money / sum w n * sum w n) (λ i. 1) (sum w n) n
@@ -51,14 +57,6 @@ module _ (w : ℕ → ℕ) (d n : ℕ) (some : 0 < sum w n) where
   -- how many weights are not 0
   abbrev pub weighted : ℕ
   weighted = sum (λ i. min (w i) 1) n
-
-  pub ceil-sum-ge : d ≤ sum (λ i. ceilDiv (d * w i) (sum w n)) n
-  ceil-sum-ge = le-of-mul-le-mul-right (omega (
-    arith,
-    sum-mono (λ i. w i * d) (λ i. ceilDiv (d * w i) (sum w n) * sum w n) n (λ i _. omega (arith, ceil-ge (d * w i) (sum w n) some)),
-    sum-times (λ i. ceilDiv (d * w i) (sum w n)) (sum w n) n,
-    sum-times w d n,
-  )) some
 
   -- a weight of 0 has nothing to round
   rounding : (i : ℕ) → i < n → ceilDiv (d * w i) (sum w n) * sum w n + min (w i) 1 ≤ w i * d + min (w i) 1 * sum w n
@@ -83,9 +81,19 @@ module _ (w : ℕ → ℕ) (d n : ℕ) (some : 0 < sum w n) where
       (λ p. p)
       (eq-zero-or-pos weighted)
 
-  pub ceil-sum-near : sum (λ i. ceilDiv (d * w i) (sum w n)) n ≤ d + (weighted - 1)
-  ceil-sum-near =
-      let l : sum (λ i. ceilDiv (d * w i) (sum w n)) n < d + weighted =
+  -- rounded up, the shares pass the amount by at most one cent less than weights are not 0
+  pub ceil-sum : Near d (sum (λ i. ceilDiv (d * w i) (sum w n)) n) (weighted - 1)
+  ceil-sum =
+      let low : d ≤ sum (λ i. ceilDiv (d * w i) (sum w n)) n =
+      le-of-mul-le-mul-right
+      (omega (
+        arith,
+        sum-mono (λ i. w i * d) (λ i. ceilDiv (d * w i) (sum w n) * sum w n) n (λ i _. omega (arith, ceil-ge (d * w i) (sum w n) some)),
+        sum-times (λ i. ceilDiv (d * w i) (sum w n)) (sum w n) n,
+        sum-times w d n,
+      ))
+      some in
+      let high : sum (λ i. ceilDiv (d * w i) (sum w n)) n < d + weighted =
       lt-of-mul-lt-mul-right (sum w n) (omega (
         arith,
         sum-slack (λ i. ceilDiv (d * w i) (sum w n) * sum w n + min (w i) 1) (λ i. w i * d) (λ i. min (w i) 1) (sum w n) n rounding,

@@ -1,12 +1,13 @@
 -- Laws of late money: how cents fill tiers, what shortages come to, and that tiers are met in order.
-use mathlib.Core.Path.{_≡_, refl, ap, sym, _∙_}
+use mathlib.Core.Path.{_≡_}
 use mathlib.Core.Logic.{_⊎_, inl, inr, ⊎-elim}
 use Prim.Native.Nat.{ℕ, zero, suc, _+_, _-_, _≤_, _<_, min, max}
 use native.Mathlib.Nat.{le-trans}
 use native.Mathlib.Omega.{arith}
 use Rattle.exact.specs.Rows.{sum}
 use Rattle.exact.proofs.Cases.{le-or-lt}
-use Rattle.exact.proofs.RowLaws.{sum-cong, sum-mono, sum-add, sum-swap, sum-tail, sum-part}
+use Rattle.exact.proofs.RowLaws.{sum-none, sum-suc, sum-cong, sum-mono, sum-add, sum-tail, sum-part}
+use Rattle.exact.proofs.Shares.{Near}
 use Rattle.settlement.specs.Month.{tiers, overTiers}
 use Rattle.settlement.specs.Tiers.{tierShare, met}
 use Rattle.settlement.specs.Late.{fill, shortage, latePayment}
@@ -14,9 +15,9 @@ use Rattle.settlement.proofs.TierLaws.{wantedBefore, wanted-mono, wante
 
 -- x cents have in the tiers before k what these take of them
 pub fill-sum : (o : ℕ → ℕ) (x k : ℕ) → sum (fill o x) k ≡ min x (sum o k)
-unfolding fill sum
-fill-sum o x zero = omega arith
-fill-sum o x (suc k) = omega (arith, fill-sum o x k)
+unfolding fill
+fill-sum o x zero = omega (arith, sum-none o, sum-none (fill o x))
+fill-sum o x (suc k) = omega (arith, sum-suc o k, sum-suc (fill o x) k, fill-sum o x k)
 
 pub fill-mono : (o : ℕ → ℕ) (x y t : ℕ) → x ≤ y → fill o x t ≤ fill o y t
 unfolding fill
@@ -86,9 +87,11 @@ module _ (to : ℕ → ℕ → ℕ) (claim paid : ℕ → ℕ) where
           (got-ends k l)
 
       pub late-tier : (t : ℕ) → t < tiers → fill (mine i) (paid i + pay i) t ≡ fill (mine i) (paid i) t + got t
-      unfolding sum
       late-tier t l = omega (
         arith,
+        sum-suc got t,
+        sum-suc (fill (mine i) (paid i)) t,
+        sum-suc (fill (mine i) (paid i + pay i)) t,
         paid-tiers t (omega arith),
         paid-tiers (suc t) l,
         fill-sum (mine i) (paid i + pay i) t,
@@ -110,9 +113,9 @@ module _ (to : ℕ → ℕ → ℕ) (claim paid : ℕ → ℕ) where
       )
 
       -- all but at most n - 1 cents of the money is paid
-      pub late-near : (sum pay n ≤ money) × (money ≤ sum pay n + (n - 1))
+      pub late-near : Near (sum pay n) money (n - 1)
       unfolding latePayment
-      late-near = let h = met-near n short money (omega (arith, wanted)) in (h .within, h .near)
+      late-near = met-near n short money (omega (arith, wanted))
 
       pub late-le : (i : ℕ) → i < n → paid i + pay i ≤ claim i
       unfolding latePayment met overTiers

@@ -2,16 +2,15 @@
 use mathlib.Core.Path.{_≡_}
 use mathlib.Core.Bool.{cond}
 use lib.Dec.{eqb}
-use Prim.Native.Nat.{ℕ, _+_, _-_, _*_, _≤_, _<_, max}
+use Prim.Native.Nat.{ℕ, _+_, _-_, _*_, _≤_, max}
 use native.Mathlib.Nat.{mul-le-mul-left}
 use native.Mathlib.Omega.{arith}
 use Rattle.exact.specs.Rows.{sum}
-use Rattle.exact.specs.Division.{ceilDiv}
 use Rattle.exact.proofs.Cases.{cases-eq, cases-le}
 use Rattle.exact.proofs.Ceiling.{ceil-le}
 use Rattle.exact.proofs.RowLaws.{sum-cong, sum-mono, sum-add, largest-le}
 use Rattle.settlement.specs.Month.{Month, owingTo, tier5}
-use Rattle.settlement.specs.Notice.{gives, shortfall, othersTier5, retention, payable, fullClaim}
+use Rattle.settlement.specs.Notice.{gives, othersTier5, retention, payable, fullClaim}
 use Rattle.settlement.proofs.MonthLaws.{tier5-le}
 
 pub gives-le : (s g G : ℕ) → gives s g G ≤ G
@@ -20,7 +19,7 @@ gives-le s g G =
     cases-eq (λ z. z ≤ G) g 0 (λ _. omega arith) (λ some.
     cases-eq (λ z. z ≤ G) s 0 (λ _. omega arith) (λ _.
     cases-le (λ z. z ≤ G) g s (λ _. omega arith) (λ less.
-    ceil-le (G * s) g (omega arith) G (mul-le-mul-left G (omega arith)))))
+    omega (arith, ceil-le (G * s) g (omega arith) G (mul-le-mul-left G (omega arith))))))
 
 -- the others have at most what all have
 pub others-le : (f : ℕ → ℕ) (p n : ℕ) → sum (λ i. cond (eqb i p) 0 (f i)) n ≤ sum f n
@@ -34,7 +33,7 @@ module _ (m : Month) (i : ℕ) where
   -- A_i ≤ G_i
   pub retention-le : retention m i ≤ tier5 m i
   unfolding retention
-  retention-le = largest-le _ _ (m .n) (λ p _. gives-le (shortfall m p) (othersTier5 m p) (tier5 m i))
+  retention-le = largest-le _ _ (m .n) (λ p _. gives-le _ _ _)
 
   -- F_i = max(O_i − B_i, A_i)
   pub full-max : fullClaim m i ≡ max (owingTo m i - m .by i) (retention m i)

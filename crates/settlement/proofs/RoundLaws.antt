@@ -1,18 +1,18 @@
 -- Laws of the rounds: they end, they take what they take from the balances, and their rounding up is worth at most n - 1.
 use mathlib.Core.Path.{_≡_, refl, ap, ap₂, sym, _∙_}
-use mathlib.Core.Logic.{_⊎_, inl, inr, ⊎-elim}
+use mathlib.Core.Logic.{_⊎_, ⊎-elim}
 use mathlib.Core.Bool.{Bool, true, false, cond}
 use Prim.Native.Nat.{ℕ, zero, suc, _+_, _-_, _*_, _≤_, _<_, min}
-use native.Mathlib.Nat.{le-trans, eq-zero-or-pos, mul-zero}
+use native.Mathlib.Nat.{eq-zero-or-pos, mul-zero}
 use native.Mathlib.Omega.{arith}
 use lib.Dec.{eqb}
-use borrow.Author.Tests.{eq-eqb, ne-eqb}
+use borrow.Author.Tests.{ne-eqb}
 use Rattle.exact.specs.Rows.{sum}
 use Rattle.exact.specs.Division.{ceilDiv}
 use Rattle.exact.proofs.Cases.{cases-eq, le-or-lt}
 use Rattle.exact.proofs.Ceiling.{ceil-zero}
 use Rattle.exact.proofs.RowLaws.{sum-cong, sum-mono, sum-add, sum-const, sum-term, sum-zero, sum-same-or-less}
-use Rattle.exact.proofs.Shares.{weighted, ceil-sum-ge, ceil-sum-near}
+use Rattle.exact.proofs.Shares.{weighted, ceil-sum}
 use Rattle.settlement.specs.Rounds.{Standing, weight, loss, round, run, spread}
 
 pub weight-le : (v balance : ℕ → ℕ) (i : ℕ) → weight v balance i ≤ v i
@@ -70,7 +70,7 @@ module _ (n : ℕ) (v : ℕ → ℕ) where
     lost-near = omega (
       arith,
       weighted-le,
-      ceil-sum-near (weight v (s .balance)) (s .deficit) n weights-some,
+      ceil-sum (weight v (s .balance)) (s .deficit) n weights-some,
       sum-mono (loss n v (s .balance) (s .deficit)) shareOf n (λ i _. omega arith),
     )
 
@@ -96,7 +96,7 @@ module _ (n : ℕ) (v : ℕ → ℕ) where
     unfolding positives
     round-spends more =
         ⊎-elim
-        (λ e. absurd (omega (arith, ceil-sum-ge (weight v (s .balance)) (s .deficit) n weights-some, sum-mono shareOf (loss n v (s .balance) (s .deficit)) n (λ i h. whole i (e i h)))))
+        (λ e. absurd (omega (arith, ceil-sum (weight v (s .balance)) (s .deficit) n weights-some, sum-mono shareOf (loss n v (s .balance) (s .deficit)) n (λ i h. whole i (e i h)))))
         (λ less. less)
         (sum-same-or-less (positive (round n v s)) (positive s) n fewer)
 

@@ -1,9 +1,10 @@
 -- Laws of steps 2 to 5: what is paid is at most the claim, and all but a few cents of what was received is paid.
-use mathlib.Core.Path.{_≡_, ap, sym, _∙_}
-use Prim.Native.Nat.{ℕ, _+_, _-_, _*_, _≤_, _<_}
+use mathlib.Core.Path.{_≡_, ap, _∙_}
+use Prim.Native.Nat.{ℕ, _+_, _-_, _≤_, _<_}
 use native.Mathlib.Omega.{arith}
 use Rattle.exact.specs.Rows.{sum}
 use Rattle.exact.proofs.RowLaws.{sum-cong, sum-mono, sum-add, sum-zero}
+use Rattle.exact.proofs.Shares.{Near}
 use Rattle.settlement.specs.Month.{Month, owingTo}
 use Rattle.settlement.specs.Notice.{payable}
 use Rattle.settlement.specs.Claims.{arrears, claim}
@@ -23,9 +24,9 @@ module _ (m : Month) (received : ℕ → ℕ) where
   unfoldable pub tierRest : ℕ
   tierRest = available m received - sum (revised m received) (m .n)
 
-  revised-near : (sum (revised m received) (m .n) ≤ available m received) × (available m received ≤ sum (revised m received) (m .n) + (m .n - 1))
+  revised-near : Near (sum (revised m received) (m .n)) (available m received) (m .n - 1)
   unfolding revised available
-  revised-near = let h = met-near (m .n) (m .to) (available m received) (omega arith) in (h .within, h .near)
+  revised-near = met-near (m .n) (m .to) (available m received) (omega arith)
 
   pub tier-rest-le : tierRest ≤ m .n - 1
   unfolding tierRest
@@ -103,11 +104,7 @@ module _ (m : Month) (received : ℕ → ℕ) where
     available-exact = omega (arith, arrears-total-le m received)
 
     -- held money: the rest of a tier, and at most n - 1 by the rounding up of the rounds
-    pub record PaidNear : Type 0 where
-      pub within : sum (paid m received) (m .n) ≤ sum received (m .n)
-      pub near : sum received (m .n) ≤ sum (paid m received) (m .n) + tierRest + (m .n - 1)
-
-    pub paid-near : PaidNear
+    pub paid-near : Near (sum (paid m received) (m .n)) (sum received (m .n)) (tierRest + (m .n - 1))
     unfolding paid spent
     paid-near = omega (
       arith,

@@ -1,5 +1,5 @@
 -- Laws of money that meets tiers in order.
-use mathlib.Core.Path.{_≡_, refl, ap, sym, _∙_}
+use mathlib.Core.Path.{_≡_, refl, sym, _∙_}
 use mathlib.Core.Logic.{⊎-elim}
 use Prim.Native.Nat.{ℕ, zero, suc, _+_, _-_, _*_, _/_, _≤_, _<_}
 use native.Mathlib.Nat.{eq-or-lt-of-le, zero-div, mul-zero}
@@ -7,8 +7,8 @@ use native.Mathlib.Omega.{arith}
 use native.Mathlib.Numerals.{add-one}
 use Rattle.exact.specs.Rows.{sum}
 use Rattle.exact.proofs.Cases.{cases-le, le-or-lt}
-use Rattle.exact.proofs.RowLaws.{sum-cong, sum-mono, sum-zero, sum-swap, sum-part, sum-term}
-use Rattle.exact.proofs.Shares.{floor-le-weight, floor-sum-le, floor-sum-near}
+use Rattle.exact.proofs.RowLaws.{sum-none, sum-suc, sum-cong, sum-mono, sum-zero, sum-swap, sum-part, sum-term}
+use Rattle.exact.proofs.Shares.{Near, floor-le-weight, floor-sum}
 use Rattle.settlement.specs.Month.{tiers, overTiers}
 use Rattle.settlement.specs.Tiers.{share, leftFor, tierShare, met}
 
@@ -27,14 +27,10 @@ module _ (n : ℕ) (w : ℕ → ℕ) (left : ℕ) where
   share-le i = cases-le (λ z. z ≤ w i) (sum w n) left (λ _. omega arith) (λ l. floor-le-weight w left n (omega arith) (omega arith) i)
 
   -- a tier that is not met shares all but at most n - 1 of what is left
-  pub record Shared : Type 0 where
-    pub within : sum (share n w left) n ≤ left
-    pub near : left ≤ sum (share n w left) n + (n - 1)
-
-  pub share-unmet-total : left < sum w n → Shared
+  share-unmet-total : left < sum w n → Near (sum (share n w left) n) left (n - 1)
   share-unmet-total h =
       let e : sum (share n w left) n ≡ sum (λ i. w i * left / sum w n) n = sum-cong _ _ n (λ i _. share-unmet h i) in
-      omega (arith, floor-sum-le w left n (omega arith), floor-sum-near w left n (omega arith))
+      rw e (floor-sum w left n (omega arith))
 
   share-nothing : left ≡ 0 → (i : ℕ) → i < n → share n w left i ≡ 0
   unfolding share
@@ -54,9 +50,13 @@ module _ (n : ℕ) (w : ℕ → ℕ → ℕ) where
   unfoldable pub wantedBefore : ℕ → ℕ
   wantedBefore t = sum (λ s. sum (w s) n) t
 
+  wanted-none : wantedBefore 0 ≡ 0
+  unfolding wantedBefore
+  wanted-none = sum-none _
+
   wanted-suc : (t : ℕ) → wantedBefore (suc t) ≡ wantedBefore t + sum (w t) n
-  unfolding wantedBefore sum
-  wanted-suc t = refl
+  unfolding wantedBefore
+  wanted-suc t = sum-suc _ t
 
   pub wanted-mono : (t k : ℕ) → t ≤ k → wantedBefore t ≤ wantedBefore k
   unfolding wantedBefore
@@ -77,9 +77,9 @@ module _ (n : ℕ) (w : ℕ → ℕ → ℕ) where
     left-more t = rw (add-one t)
 
     left-is : (t : ℕ) → leftFor n w money t ≡ money - wantedBefore t
-    unfolding leftFor wantedBefore sum
-    left-is zero = omega arith
-    left-is (suc t) = omega (arith, left-is t)
+    unfolding leftFor
+    left-is zero = omega (arith, wanted-none)
+    left-is (suc t) = omega (arith, left-is t, wanted-suc t)
 
     -- a tier that is met with those before it, and one after the first that is not met
     pub tier-met : (t : ℕ) → wantedBefore (suc t) ≤ money → (i : ℕ) → tierShare n w money t i ≡ w t i
@@ -90,7 +90,8 @@ module _ (n : ℕ) (w : ℕ → ℕ → ℕ) where
     unfolding tierShare
     tier-after t h i l = share-nothing n (w t) (leftFor n w money t) (omega (arith, left-is t)) i l
 
-    tier-unmet : (t : ℕ) → leftFor n w money t < sum (w t) n → Shared n (w t) (leftFor n w money t)
+    tier-unmet : (t : ℕ) → leftFor n w money t < sum (w t) n → Near (sum (tierShare n w money t) n) (leftFor n w money t) (n - 1)
+    unfolding tierShare
     tier-unmet t h = share-unmet-total n (w t) (leftFor n w money t) h
 
     pub tier-share-le : (t i : ℕ) → tierShare n w money t i ≤ w t i
@@ -101,23 +102,21 @@ module _ (n : ℕ) (w : ℕ → ℕ → ℕ) where
     unfoldable givenBefore : ℕ → ℕ
     givenBefore k = sum (λ t. sum (tierShare n w money t) n) k
 
+    given-none : givenBefore 0 ≡ 0
+    unfolding givenBefore
+    given-none = sum-none _
+
     given-suc : (k : ℕ) → givenBefore (suc k) ≡ givenBefore k + sum (tierShare n w money k) n
-    unfolding givenBefore sum
-    given-suc k = refl
+    unfolding givenBefore
+    given-suc k = sum-suc _ k
 
     given-met : (k : ℕ) → wantedBefore k ≤ money → givenBefore k ≡ wantedBefore k
-    unfolding givenBefore wantedBefore sum
-    given-met zero h = refl
+    given-met zero h = omega (arith, wanted-none, given-none)
     given-met (suc k) h =
-        omega (arith, wanted-suc k, given-met k (omega (arith, wanted-suc k)), sum-cong (tierShare n w money k) (w k) n (λ i _. tier-met k h i))
+        omega (arith, given-suc k, wanted-suc k, given-met k (omega (arith, wanted-suc k)), sum-cong (tierShare n w money k) (w k) n (λ i _. tier-met k h i))
 
-    record Given (k : ℕ) : Type 0 where
-      pub within : givenBefore k ≤ money
-      pub near : money ≤ givenBefore k + (n - 1)
-
-    given-unmet : (k : ℕ) → money < wantedBefore k → Given k
-    unfolding wantedBefore sum tierShare
-    given-unmet zero h = absurd (omega arith)
+    given-unmet : (k : ℕ) → money < wantedBefore k → Near (givenBefore k) money (n - 1)
+    given-unmet zero h = absurd (omega (arith, wanted-none))
     given-unmet (suc k) h =
         ⊎-elim
         (λ (l : wantedBefore k ≤ money).
@@ -131,11 +130,7 @@ module _ (n : ℕ) (w : ℕ → ℕ → ℕ) where
     met-total = sum-swap (tierShare n w money) n tiers
 
     -- what the tiers get is at most the money, and all but at most n - 1 of it where they want as much
-    pub record Met : Type 0 where
-      pub within : sum (met n w money) n ≤ money
-      pub near : money ≤ sum (met n w money) n + (n - 1)
-
-    pub met-near : money ≤ sum (overTiers w) n → Met
+    pub met-near : money ≤ sum (overTiers w) n → Near (sum (met n w money) n) money (n - 1)
     met-near h =
         ⊎-elim
         (λ (e : money ≡ wantedBefore tiers). omega (arith, met-total, given-met tiers (omega arith)))

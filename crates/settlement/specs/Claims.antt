@@ -1,4 +1,4 @@
--- Step 1 of settlement: what each participant has not paid, its set-off, arrears and claim (01, Settlement, step 1).
+-- What each participant has not paid, its set-off, arrears and claim (01, Settlement, step 1; 14.44(1)(c), 14.55(2)).
 use Prim.Native.Nat.{ℕ, _-_, min}
 use Rattle.exact.specs.Rows.{cells}
 use Rattle.settlement.specs.Month.{Month, owingTo}

@@ -1,7 +1,7 @@
 -- The ten starred examples (01, Reckoned examples) as one proposition about the definitions.
 use Prim.Native.Nat.{ℕ, _+_}
 use mathlib.Core.Path.{_≡_}
-use mathlib.Core.List.{List, [], _∷_, _++_}
+use mathlib.Core.List.{[], _∷_, _++_}
 use lib.ListN.{replicate}
 use Rattle.exact.specs.Rows.{at, table}
 use Rattle.exact.specs.Energy.{energyCents}

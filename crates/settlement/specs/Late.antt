@@ -1,4 +1,4 @@
--- Late money (01, Late money).
+-- What late money pays (01, Late money; document 002, MP-020).
 use Prim.Native.Nat.{ℕ, _-_, min}
 use Rattle.exact.specs.Rows.{sum}
 use Rattle.settlement.specs.Tiers.{met}

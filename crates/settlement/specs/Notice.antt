@@ -1,4 +1,5 @@
--- What a notice reckons: retention, payable amounts and full claims (01, Notice; document 000, 1a).
+-- What a notice reckons: retention, payable amounts and full claims (01, Notice).
+-- Retention is by document 000, section 2, (1) and (1a), with every participant its own related group.
 use Prim.Native.Nat.{ℕ, _+_, _-_, _*_}
 use mathlib.Core.Bool.{cond}
 use lib.Dec.{eqb, leb}
@@ -7,7 +8,7 @@ use Rattle.exact.specs.Division.{ceilDiv}
 use Rattle.settlement.specs.Month.{Month, owingTo, tier5}
 use Rattle.settlement.specs.declared.noticing.Noticed.{Noticed}
 
--- what p gives i, with s the shortfall of p, g the tier 5 total of the others and G the tier 5 part of i
+-- what p gives i: s is the shortfall of p, g the tier 5 total of the others than p, G the tier 5 part of i
 unfoldable pub gives : ℕ → ℕ → ℕ → ℕ
 gives s g G = cond (eqb g 0) 0 (cond (eqb s 0) 0 (cond (leb g s) G (ceilDiv (G * s) g)))
 
@@ -24,11 +25,11 @@ module _ (m : Month) where
   unfoldable pub retention : ℕ → ℕ
   retention i = largest (λ p. gives (shortfall p) (othersTier5 p) (tier5 m i)) (m .n)
 
-  -- P_i = max(0, B_i − O_i + A_i)
+  -- P_i = max(0, B_i − O_i + A_i) (14.22(1))
   unfoldable pub payable : ℕ → ℕ
   payable i = (m .by i + retention i) - owingTo m i
 
-  -- F_i = O_i − B_i + P_i
+  -- F_i = O_i − B_i + P_i (14.22(2))
   unfoldable pub fullClaim : ℕ → ℕ
   fullClaim i = (owingTo m i + payable i) - m .by i
 

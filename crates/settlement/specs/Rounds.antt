@@ -1,4 +1,4 @@
--- The rounds that take a deficit from positive balances (01, Settlement, step 4; 14.59(4)).
+-- The rounds that take a deficit from positive balances (01, Settlement, step 4; 14.59(4)(b) and (5)).
 use Prim.Native.Nat.{ℕ, zero, suc, _+_, _-_, _*_, _≤_, _<_, min}
 use mathlib.Core.Bool.{cond}
 use lib.Dec.{eqb}

@@ -1,4 +1,4 @@
--- Steps 2 to 5 of settlement (01, Settlement; 14.57 to 14.59).
+-- Available money, revised, scaled and paid amounts (01, Settlement, steps 2 to 5; 14.57 to 14.59).
 use Prim.Native.Nat.{ℕ, _+_, _-_}
 use Rattle.exact.specs.Rows.{sum, cells}
 use Rattle.settlement.specs.Month.{Month, owingTo}
@@ -17,7 +17,7 @@ module _ (m : Month) (received : ℕ → ℕ) where
   unfoldable pub revised : ℕ → ℕ
   revised i = met (m .n) (m .to) available i
 
-  -- step 3: the scaled amount C_i − (O_i − V_i), where it is positive ..
+  -- step 3: the scaled amount C_i − (O_i − V_i) (14.58) where it is positive ..
   unfoldable pub scaled : ℕ → ℕ
   scaled i = (claim m received i + revised i) - owingTo m i
 
@@ -35,10 +35,11 @@ module _ (m : Month) (received : ℕ → ℕ) where
     below = cells scaledBelow (m .n);
   }
 
-  -- step 4: D
+  -- step 4: D, the negative scaled amounts summed, sign turned
   unfoldable pub deficit : ℕ
   deficit = sum scaledBelow (m .n)
 
+  -- where the rounds end; an amount that is negative starts them as a balance of 0 (14.59(4)(a))
   unfoldable pub spent : Standing
   spent = spread (m .n) revised scaled deficit
 

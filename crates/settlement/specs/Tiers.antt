@@ -1,4 +1,4 @@
--- Money that meets tiers in order, in settlement (01, Settlement, step 2; 14.57) and with late money (01, Late money).
+-- Money that meets tiers in order (01, Settlement, step 2, and Late money; 14.56(2), and 14.57's formula for a tier).
 use Prim.Native.Nat.{ℕ, zero, suc, _-_, _*_, _/_, _%_}
 use mathlib.Core.Bool.{cond}
 use lib.Dec.{leb}

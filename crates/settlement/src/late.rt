@@ -8,9 +8,9 @@ use exact::Row;
 use exact::excess;
 use exact::smaller;
 ghost use mathlib.Core.Path.{_≡_};
-ghost use Prim.Native.Nat.{ℕ, _-_, _≤_, _<_, min};
+ghost use Prim.Native.Nat.{_-_, _≤_, min};
 ghost use Rattle.exact.specs.Rows.{places, at, sum, cells};
-ghost use Rattle.settlement.specs.Month.{sideLimit, tiers, tierAt, tierCells, overTiers};
+ghost use Rattle.settlement.specs.Month.{sideLimit, tierAt, tierCells, overTiers};
 ghost use Rattle.settlement.specs.Late.{shortage, latePayment};
 
 // What is missing in tier t of a claim, of which some was paid, where the tier holds `own` and those before it `before`.

@@ -9,9 +9,8 @@ use exact::total;
 ghost use mathlib.Core.Path.{_≡_};
 ghost use mathlib.Core.Bool.{cond};
 ghost use lib.Dec.{eqb};
-ghost use Prim.Native.Nat.{ℕ, _≤_, _<_};
+ghost use Prim.Native.Nat.{_≤_, _<_};
 ghost use Rattle.exact.specs.Rows.{places, at, sum, cells};
-ghost use Rattle.settlement.specs.Month.{sideLimit};
 ghost use Rattle.settlement.specs.Rounds.{weight, loss, spread, Backing};
 
 pub struct Spent {

@@ -12,7 +12,7 @@ use exact::total;
 ghost use mathlib.Core.Path.{_≡_};
 ghost use mathlib.Core.Bool.{cond};
 ghost use lib.Dec.{leb};
-ghost use Prim.Native.Nat.{ℕ, _*_, _/_, _%_, _≤_, _<_};
+ghost use Prim.Native.Nat.{_*_, _/_, _%_, _≤_, _<_};
 ghost use Rattle.exact.specs.Rows.{places, at, sum, cells};
 ghost use Rattle.settlement.specs.Month.{sideLimit, tierAt, overTiers};
 ghost use Rattle.settlement.specs.Tiers.{share, shareRemainder, met};

@@ -1,7 +1,6 @@
 -- Each row is reckoned from the rows before it, by 01's formula for it.
-use borrow.Author.Needs.{needs}
 use Prim.Native.Nat.{_+_, _-_, min}
-use mathlib.Core.Path.{_≡_, refl, sym, _∙_}
+use mathlib.Core.Path.{_≡_, sym, _∙_}
 use native.Mathlib.Omega.{arith}
 use Rattle.exact.specs.Rows.{at, cells}
 use Rattle.exact.proofs.RowLaws.{cells-both, cells-cong, holds, holds-own}

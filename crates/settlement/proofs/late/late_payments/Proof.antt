@@ -1,5 +1,5 @@
 use borrow.Author.Needs.{needs}
-use mathlib.Core.Path.{_≡_, _∙_}
+use mathlib.Core.Path.{_∙_}
 use native.Mathlib.Nat.{le-trans}
 use Rattle.exact.proofs.RowLaws.{cells-cong, sum-mono}
 use Rattle.settlement.specs.Month.{tierAt}

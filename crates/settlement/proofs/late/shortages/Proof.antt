@@ -1,10 +1,10 @@
 use borrow.Author.Needs.{needs}
-use Prim.Native.Nat.{ℕ, _-_, _+_, _*_, _/_, _%_, _≤_, _<_}
-use mathlib.Core.Path.{_≡_, ap, _∙_}
+use Prim.Native.Nat.{ℕ, _-_, _+_, _*_, _/_, _%_, _≤_}
+use mathlib.Core.Path.{_≡_, _∙_}
 use native.Mathlib.Omega.{arith}
-use Rattle.exact.specs.Rows.{at, sum, filled}
+use Rattle.exact.specs.Rows.{at, filled}
 use Rattle.exact.proofs.RowLaws.{filled-none, filled-more, sum-term}
-use Rattle.settlement.specs.Month.{tiers, sideLimit, tierAt, tierCells, overTiers}
+use Rattle.settlement.specs.Month.{tiers, tierAt, tierCells, overTiers}
 use Rattle.settlement.specs.Late.{fill, shortage}
 use Rattle.settlement.proofs.late.shortages.Statement.{statement}
 use Rattle.settlement.proofs.late.shortages.Tie as tie

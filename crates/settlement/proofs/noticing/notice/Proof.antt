@@ -1,5 +1,4 @@
 -- Each row is reckoned from the rows before it, by 01's formula for it.
-use borrow.Author.Needs.{needs}
 use Prim.Native.Nat.{_+_, _-_, _≤_}
 use mathlib.Core.Path.{_≡_, ap, _∙_}
 use mathlib.Core.Bool.{cond}

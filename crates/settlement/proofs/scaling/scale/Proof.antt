@@ -1,10 +1,10 @@
 -- Each row is reckoned from the rows before it, by 01's formula for it.
 use borrow.Author.Needs.{needs}
-use Prim.Native.Nat.{ℕ, _+_, _-_, _≤_}
+use Prim.Native.Nat.{ℕ, _+_, _-_}
 use mathlib.Core.Path.{_≡_, ap, ap₂, _∙_}
 use native.Mathlib.Omega.{arith}
-use Rattle.exact.specs.Rows.{at, sum, cells}
-use Rattle.exact.proofs.RowLaws.{cells-both, Holds, holds, sum-holds}
+use Rattle.exact.specs.Rows.{at, cells}
+use Rattle.exact.proofs.RowLaws.{cells-both, holds, sum-holds}
 use Rattle.settlement.specs.Month.{Month, month, owingTo}
 use Rattle.settlement.specs.Claims.{claim, arrears, claimed}
 use Rattle.settlement.specs.Settling.{available, revised, scaled, scaledBelow, scaledAmounts}

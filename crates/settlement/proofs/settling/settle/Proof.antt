@@ -1,12 +1,12 @@
 -- The rounds start from the rows that the steps before them hand on.
 use borrow.Author.Needs.{needs}
-use Prim.Native.Nat.{ℕ, _≤_, _<_}
-use mathlib.Core.Path.{_≡_, refl, ap, _∙_}
+use Prim.Native.Nat.{ℕ}
+use mathlib.Core.Path.{_≡_, ap, _∙_}
 use native.Mathlib.Omega.{arith}
 use Rattle.exact.specs.Rows.{at, sum, cells}
-use Rattle.exact.proofs.RowLaws.{Holds, holds, sum-holds, cells-again, cells-cong}
+use Rattle.exact.proofs.RowLaws.{holds, sum-holds, cells-again, cells-cong}
 use Rattle.settlement.specs.Month.{Month, month}
-use Rattle.settlement.specs.Rounds.{spread, Backing}
+use Rattle.settlement.specs.Rounds.{spread}
 use Rattle.settlement.specs.Claims.{claim, arrears}
 use Rattle.settlement.specs.Settling.{revised, scaled, scaledBelow, scaledAmounts, deficit, spent, rounds, paid, settled}
 use Rattle.settlement.specs.declared.scaling.Scaled.{Scaled}

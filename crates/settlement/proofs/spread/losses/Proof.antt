@@ -1,7 +1,7 @@
 -- The loop goes by the row of weights and its sum, which are those of the definition.
 use borrow.Author.Needs.{needs}
-use Prim.Native.Nat.{ℕ, _-_, _+_, _*_, _≤_, _<_, min}
-use mathlib.Core.Path.{_≡_, ap, _∙_}
+use Prim.Native.Nat.{ℕ, _-_, _*_, _≤_, _<_, min}
+use mathlib.Core.Path.{_≡_, _∙_}
 use native.Mathlib.Omega.{arith}
 use Rattle.exact.specs.Rows.{at, sum, cells}
 use Rattle.exact.specs.Division.{ceilDiv}

@@ -1,4 +1,3 @@
-use borrow.Author.Needs.{needs}
 use borrow.Author.Tests.{eq-eqb, ne-eqb}
 use Rattle.settlement.proofs.spread.weight_of.Statement.{statement}
 use Rattle.settlement.proofs.spread.weight_of.Tie as tie

@@ -1,6 +1,5 @@
 use borrow.Author.Needs.{needs}
 use mathlib.Core.Path.{refl, _∙_}
-use native.Mathlib.Omega.{arith}
 use borrow.Author.Tests.{le-leb, lt-leb}
 use Rattle.settlement.proofs.walk.share_of.Statement.{statement}
 use Rattle.settlement.proofs.walk.share_of.Tie as tie

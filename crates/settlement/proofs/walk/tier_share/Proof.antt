@@ -1,8 +1,8 @@
 use borrow.Author.Needs.{needs}
-use Prim.Native.Nat.{ℕ, _-_, _+_, _≤_, _<_}
+use Prim.Native.Nat.{_-_, _≤_}
 use mathlib.Core.Path.{_≡_, ap, _∙_}
 use native.Mathlib.Omega.{arith}
-use Rattle.exact.specs.Rows.{at, sum, cells}
+use Rattle.exact.specs.Rows.{at, cells}
 use Rattle.exact.proofs.RowLaws.{cells-none, cells-more, sum-term}
 use Rattle.settlement.specs.Tiers.{share, shareRemainder}
 use Rattle.settlement.proofs.walk.tier_share.Statement.{statement}
