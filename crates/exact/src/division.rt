@@ -3,6 +3,7 @@ ghost use mathlib.Core.Path.{_≡_};
 ghost use Prim.Native.Nat.{ℕ, _+_, _*_, _/_, _%_, _^_, _≤_, _<_};
 ghost use Rattle.exact.specs.Division.{ceilDiv, Proportional};
 
+// A quotient rounded down, and what the division leaves.
 pub struct Quotient {
     pub quotient: u64,
     pub remainder: u64,

@@ -8,12 +8,12 @@ use Rattle.settlement.specs.Notice.{gives, shortfall, othersTier5, reten
 use Rattle.settlement.specs.Claims.{unpaid, setOff, arrears, claim}
 use Rattle.settlement.specs.Tiers.{share, leftFor, tierShare, met}
 use Rattle.settlement.specs.Rounds.{weight, loss, round, run, spread}
-use Rattle.settlement.specs.Settling.{available, revised, scaled, scaledBelow, deficit, spent, rounds, paid, held}
+use Rattle.settlement.specs.Settling.{available, revised, scaledAbove, scaledBelow, deficit, spent, rounds, paid, held}
 use Rattle.settlement.specs.Late.{fill, shortage, latePayment}
 use Rattle.settlement.specs.Examples.{Examples}
 
 pub examples : Examples
-unfolding sum largest table ceilDiv energyCents overTiers gives shortfall othersTier5 retention payable fullClaim unpaid setOff arrears claim share leftFor tierShare met weight loss round run spread available revised scaled scaledBelow deficit spent rounds paid held fill shortage latePayment
+unfolding sum largest table ceilDiv energyCents overTiers gives shortfall othersTier5 retention payable fullClaim unpaid setOff arrears claim share leftFor tierShare met weight loss round run spread available revised scaledAbove scaledBelow deficit spent rounds paid held fill shortage latePayment
 examples = record {
   energy-up = refl;
   energy-down = refl;

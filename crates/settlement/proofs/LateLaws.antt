@@ -10,7 +10,7 @@ use Rattle.exact.proofs.RowLaws.{sum-none, sum-suc, sum-cong, sum-mono, sum-add
 use Rattle.exact.proofs.Shares.{Near}
 use Rattle.settlement.specs.Month.{tiers, overTiers}
 use Rattle.settlement.specs.Tiers.{tierShare, met}
-use Rattle.settlement.specs.Late.{fill, shortage, latePayment}
+use Rattle.settlement.specs.Late.{fill, tiersOf, shortage, latePayment}
 use Rattle.settlement.proofs.TierLaws.{wantedBefore, wanted-mono, wanted-all, tier-met, tier-after, tier-share-le, met-near}
 
 -- x cents have in the tiers before k what these take of them
@@ -32,32 +32,29 @@ module _ (to : ℕ → ℕ → ℕ) (claim paid : ℕ → ℕ) where
   unfolding shortage fill
   shortage-le t i = omega arith
 
-  -- the tiers of one owner
-  abbrev mine : ℕ → ℕ → ℕ
-  mine i t = to t i
-
   -- an owner that was paid no more than its claim
   module _ (i : ℕ) (under : paid i ≤ claim i) where
-    shortage-is : (t : ℕ) → short t i + fill (mine i) (paid i) t ≡ fill (mine i) (claim i) t
+    shortage-is : (t : ℕ) → short t i + fill (tiersOf to i) (paid i) t ≡ fill (tiersOf to i) (claim i) t
     unfolding shortage
-    shortage-is t = omega (arith, fill-mono (mine i) (paid i) (claim i) t under)
+    shortage-is t = omega (arith, fill-mono (tiersOf to i) (paid i) (claim i) t under)
 
     -- shortages before tier k are what the claim has there and the payments have not
-    pub shortage-sum : (k : ℕ) → sum (λ t. short t i) k + min (paid i) (sum (mine i) k) ≡ min (claim i) (sum (mine i) k)
+    pub shortage-sum : (k : ℕ) → sum (λ t. shortage to claim paid t i) k + min (paid i) (sum (tiersOf to i) k) ≡ min (claim i) (sum (tiersOf to i) k)
     shortage-sum k = omega (
       arith,
-      fill-sum (mine i) (paid i) k,
-      fill-sum (mine i) (claim i) k,
-      sum-add (λ t. short t i) (fill (mine i) (paid i)) k,
-      sum-cong _ (fill (mine i) (claim i)) k (λ t _. shortage-is t),
+      fill-sum (tiersOf to i) (paid i) k,
+      fill-sum (tiersOf to i) (claim i) k,
+      sum-add (λ t. short t i) (fill (tiersOf to i) (paid i)) k,
+      sum-cong _ (fill (tiersOf to i) (claim i)) k (λ t _. shortage-is t),
     )
 
     -- an owner whose tiers before k are met has been paid its claim up to there
-    pub paid-through : (k : ℕ) → paid i + sum (λ t. short t i) k ≡ max (paid i) (min (claim i) (sum (mine i) k))
+    pub paid-through : (k : ℕ) → paid i + sum (λ t. shortage to claim paid t i) k ≡ max (paid i) (min (claim i) (sum (tiersOf to i) k))
     paid-through k = omega (arith, shortage-sum k)
 
   module _ (n money : ℕ) where
-    abbrev pay : ℕ → ℕ
+    -- what the money pays
+    abbrev pub pay : ℕ → ℕ
     pay = latePayment to claim paid n money
 
     module _ (i : ℕ) (member : i < n) (under : paid i ≤ claim i) where
@@ -78,7 +75,7 @@ module _ (to : ℕ → ℕ → ℕ) (claim paid : ℕ → ℕ) where
           (le-or-lt (wantedBefore n short k) money)
 
       -- money paid fills the tiers that it was paid for
-      paid-tiers : (k : ℕ) → k ≤ tiers → min (paid i + pay i) (sum (mine i) k) ≡ min (paid i) (sum (mine i) k) + sum got k
+      paid-tiers : (k : ℕ) → k ≤ tiers → min (paid i + pay i) (sum (tiersOf to i) k) ≡ min (paid i) (sum (tiersOf to i) k) + sum got k
       unfolding latePayment met overTiers
       paid-tiers k l =
           ⊎-elim
@@ -86,18 +83,18 @@ module _ (to : ℕ → ℕ → ℕ) (claim paid : ℕ → ℕ) where
           (λ e. omega (arith, e, shortage-sum i under k, got-le k))
           (got-ends k l)
 
-      pub late-tier : (t : ℕ) → t < tiers → fill (mine i) (paid i + pay i) t ≡ fill (mine i) (paid i) t + got t
+      late-tier : (t : ℕ) → t < tiers → fill (tiersOf to i) (paid i + pay i) t ≡ fill (tiersOf to i) (paid i) t + got t
       late-tier t l = omega (
         arith,
         sum-suc got t,
-        sum-suc (fill (mine i) (paid i)) t,
-        sum-suc (fill (mine i) (paid i + pay i)) t,
+        sum-suc (fill (tiersOf to i) (paid i)) t,
+        sum-suc (fill (tiersOf to i) (paid i + pay i)) t,
         paid-tiers t (omega arith),
         paid-tiers (suc t) l,
-        fill-sum (mine i) (paid i + pay i) t,
-        fill-sum (mine i) (paid i + pay i) (suc t),
-        fill-sum (mine i) (paid i) t,
-        fill-sum (mine i) (paid i) (suc t),
+        fill-sum (tiersOf to i) (paid i + pay i) t,
+        fill-sum (tiersOf to i) (paid i + pay i) (suc t),
+        fill-sum (tiersOf to i) (paid i) t,
+        fill-sum (tiersOf to i) (paid i) (suc t),
       )
 
     -- all owners: the claims are what was paid, the money at hand, and the arrears that remain
@@ -131,7 +128,7 @@ module _ (to : ℕ → ℕ → ℕ) (claim paid : ℕ → ℕ) where
       late-open e = omega (arith, even, late-near, sum-cong (λ i. paid i + pay i) claim n e, sum-add paid pay n)
 
       -- where money reaches tier t of some owner, no owner has a shortage in a tier before t
-      pub tiers-in-order : (t i : ℕ) → t < tiers → i < n → fill (mine i) (paid i) t < fill (mine i) (paid i + pay i) t
+      pub tiers-in-order : (t i : ℕ) → t < tiers → i < n → fill (tiersOf to i) (paid i) t < fill (tiersOf to i) (paid i + pay i) t
           → (s j : ℕ) → s < t → j < n → shortage to claim (λ k. paid k + pay k) s j ≡ 0
       unfolding shortage
       tiers-in-order t i lt li more s j ls lj =

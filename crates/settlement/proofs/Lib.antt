@@ -1,9 +1,11 @@
-pub mod Examples
-pub mod MonthLaws
-pub mod NoticeLaws
-pub mod ClaimLaws
-pub mod TierLaws
-pub mod RoundLaws
+mod Examples
+mod MonthLaws
+mod RetentionLaws
+mod NoticeLaws
+mod ClaimLaws
+mod TierLaws
+mod RoundLaws
 mod Running
-pub mod SettleLaws
-pub mod LateLaws
+mod SettleLaws
+mod LateLaws
+pub mod Laws

@@ -137,6 +137,8 @@ module _ (n : ℕ) (v : ℕ → ℕ) where
     pub done : min (r .deficit) (sum (r .balance) n) ≡ 0
     pub low : sum (r .balance) n + s .deficit ≤ sum (s .balance) n + r .deficit
     pub high : sum (s .balance) n ≤ sum (r .balance) n + s .deficit + (n - 1)
+    -- a deficit that outlives the balances fell by all of them
+    pub outlived : min (r .deficit) ((sum (s .balance) n + r .deficit) - (sum (r .balance) n + s .deficit)) ≡ 0
     pub counted : r .rounds ≤ s .rounds + positives s
 
   none-positive : (s : Standing) → positives s ≤ 0 → sum (s .balance) n ≡ 0
@@ -155,7 +157,19 @@ module _ (n : ℕ) (v : ℕ → ℕ) where
   -- one that does not leaves the rest of the deficit to those after it
   earlier-round : (s r : Standing) → Backed s → 0 < sum (s .balance) n → sum (loss n v (s .balance) (s .deficit)) n < s .deficit
       → positives (round n v s) < positives s → Ended (round n v s) r → Ended s r
-  earlier-round s r backed some more fewer e = omega (arith, round-deficit s, round-counts s, kept s backed some)
+  earlier-round s r backed some more less e =
+      let lost = sum (loss n v (s .balance) (s .deficit)) n in
+      let d : round n v s .deficit + lost ≡ s .deficit = omega (arith, round-deficit s) in
+      let b = kept s backed some in
+      let same : (sum (s .balance) n + r .deficit) - (sum (r .balance) n + s .deficit)
+      ≡ (sum (round n v s .balance) n + r .deficit) - (sum (r .balance) n + round n v s .deficit) = omega (arith, d, b) in
+      record {
+        done = e .done;
+        low = omega (arith, d, b, e .low);
+        high = omega (arith, d, b, e .high);
+        outlived = rw same (e .outlived);
+        counted = omega (arith, round-counts s, e .counted);
+      }
 
   run-ended : (k : ℕ) (s : Standing) → Backed s → positives s ≤ k → Ended s (run n v k s)
   unfolding run

@@ -1,116 +1,142 @@
 -- Laws of steps 2 to 5: what is paid is at most the claim, and all but a few cents of what was received is paid.
 use mathlib.Core.Path.{_≡_, ap, _∙_}
-use Prim.Native.Nat.{ℕ, _+_, _-_, _≤_, _<_}
+use mathlib.Core.Logic.{_⊎_, inl, inr, ⊎-elim}
+use Prim.Native.Nat.{ℕ, _+_, _-_, _*_, _≤_, _<_}
+use native.Mathlib.Nat.{eq-zero-or-pos}
 use native.Mathlib.Omega.{arith}
 use Rattle.exact.specs.Rows.{sum}
 use Rattle.exact.proofs.RowLaws.{sum-cong, sum-mono, sum-add, sum-zero}
 use Rattle.exact.proofs.Shares.{Near}
 use Rattle.settlement.specs.Month.{Month, owingTo}
-use Rattle.settlement.specs.Notice.{payable}
+use Rattle.settlement.specs.Notice.{Retained, payable}
 use Rattle.settlement.specs.Claims.{arrears, claim}
-use Rattle.settlement.specs.Rounds.{Standing}
-use Rattle.settlement.specs.Settling.{available, revised, scaled, scaledBelow, deficit, spent, rounds, paid}
+use Rattle.settlement.specs.Rounds.{Standing, spread}
+use Rattle.settlement.specs.Settling.{available, revised, scaledAbove, scaledBelow, deficit, spent, rounds, paid, held}
 use Rattle.settlement.proofs.ClaimLaws.{claim-le, claim-total, arrears-total-le}
 use Rattle.settlement.proofs.TierLaws.{met-le, met-all, met-near}
 use Rattle.settlement.proofs.RoundLaws.{Backed, start, spread-le, spread-none, spread-ended, spread-rounds}
 
-module _ (m : Month) (received : ℕ → ℕ) where
+module _ (m : Month) (retained received : ℕ → ℕ) (sound : Retained m retained) where
   -- V_i ≤ O_i
-  pub revised-le : (i : ℕ) → revised m received i ≤ owingTo m i
+  pub revised-le : (i : ℕ) → revised m retained received i ≤ owingTo m i
   unfolding revised
-  revised-le i = met-le (m .n) (m .to) (available m received) i
+  revised-le i = met-le (m .n) (m .to) (available m retained received) i
 
   -- the rest of the one tier that is not met
   unfoldable pub tierRest : ℕ
-  tierRest = available m received - sum (revised m received) (m .n)
+  tierRest = available m retained received - sum (revised m retained received) (m .n)
 
-  revised-near : Near (sum (revised m received) (m .n)) (available m received) (m .n - 1)
+  revised-near : Near (sum (revised m retained received) (m .n)) (available m retained received) (m .n - 1)
   unfolding revised available
-  revised-near = met-near (m .n) (m .to) (available m received) (omega arith)
+  revised-near = met-near (m .n) (m .to) (available m retained received) (omega arith)
 
   pub tier-rest-le : tierRest ≤ m .n - 1
   unfolding tierRest
   tier-rest-le = omega (arith, revised-near)
 
-  pub revised-total : sum (revised m received) (m .n) + tierRest ≡ available m received
+  pub revised-total : sum (revised m retained received) (m .n) + tierRest ≡ available m retained received
   unfolding tierRest
   revised-total = omega (arith, revised-near)
 
   -- a positive scaled amount is at most the claim, and at most the revised amount
-  pub scaled-le-claim : (i : ℕ) → scaled m received i ≤ claim m received i
-  unfolding scaled
+  pub scaled-le-claim : (i : ℕ) → scaledAbove m retained received i ≤ claim m retained received i
+  unfolding scaledAbove
   scaled-le-claim i = omega (arith, revised-le i)
 
-  pub scaled-le-revised : (i : ℕ) → scaled m received i ≤ revised m received i
-  unfolding scaled
-  scaled-le-revised i = omega (arith, claim-le m received i)
+  pub scaled-le-revised : (i : ℕ) → scaledAbove m retained received i ≤ revised m retained received i
+  unfolding scaledAbove
+  scaled-le-revised i = omega (arith, claim-le m retained received sound i)
 
-  pub scaled-backed : Backed (m .n) (revised m received) (start (m .n) (revised m received) (scaled m received) (deficit m received))
+  pub scaled-backed : Backed (m .n) (revised m retained received) (start (m .n) (revised m retained received) (scaledAbove m retained received) (deficit m retained received))
   scaled-backed i _ = scaled-le-revised i
 
-  pub revised-total-le : sum (revised m received) (m .n) ≤ sum (owingTo m) (m .n)
-  revised-total-le = sum-mono (revised m received) (owingTo m) (m .n) (λ i _. revised-le i)
+  pub revised-total-le : sum (revised m retained received) (m .n) ≤ sum (owingTo m) (m .n)
+  revised-total-le = sum-mono (revised m retained received) (owingTo m) (m .n) (λ i _. revised-le i)
 
-  pub deficit-le : deficit m received ≤ sum (owingTo m) (m .n)
+  pub deficit-le : deficit m retained received ≤ sum (owingTo m) (m .n)
   unfolding deficit scaledBelow
-  deficit-le = sum-mono (scaledBelow m received) (owingTo m) (m .n) (λ i _. omega arith)
+  deficit-le = sum-mono (scaledBelow m retained received) (owingTo m) (m .n) (λ i _. omega arith)
 
-  scaled-total : sum (scaled m received) (m .n) + sum (owingTo m) (m .n) ≡ sum (claim m received) (m .n) + sum (revised m received) (m .n) + deficit m received
-  unfolding scaled scaledBelow deficit
+  scaled-total : sum (scaledAbove m retained received) (m .n) + sum (owingTo m) (m .n) ≡ sum (claim m retained received) (m .n) + sum (revised m retained received) (m .n) + deficit m retained received
+  unfolding scaledAbove scaledBelow deficit
   scaled-total = omega (
     arith,
-    sum-cong (λ i. scaled m received i + owingTo m i) (λ i. claim m received i + revised m received i + scaledBelow m received i) (m .n) (λ i _. omega arith),
-    sum-add (scaled m received) (owingTo m) (m .n),
-    sum-add (λ i. claim m received i + revised m received i) (scaledBelow m received) (m .n),
-    sum-add (claim m received) (revised m received) (m .n),
+    sum-cong (λ i. scaledAbove m retained received i + owingTo m i) (λ i. claim m retained received i + revised m retained received i + scaledBelow m retained received i) (m .n) (λ i _. omega arith),
+    sum-add (scaledAbove m retained received) (owingTo m) (m .n),
+    sum-add (λ i. claim m retained received i + revised m retained received i) (scaledBelow m retained received) (m .n),
+    sum-add (claim m retained received) (revised m retained received) (m .n),
   )
 
-  pub paid-le : (i : ℕ) → paid m received i ≤ claim m received i
+  pub paid-le : (i : ℕ) → paid m retained received i ≤ claim m retained received i
   unfolding paid spent
-  paid-le i = omega (arith, spread-le (m .n) (revised m received) (scaled m received) (deficit m received) i, scaled-le-claim i)
+  paid-le i = omega (arith, spread-le (m .n) (revised m retained received) (scaledAbove m retained received) (deficit m retained received) i, scaled-le-claim i)
 
-  pub rounds-le : rounds m received ≤ m .n
+  pub rounds-le : rounds m retained received ≤ m .n
   unfolding rounds spent
-  rounds-le = spread-rounds (m .n) (revised m received) (scaled m received) (deficit m received) scaled-backed
+  rounds-le = spread-rounds (m .n) (revised m retained received) (scaledAbove m retained received) (deficit m retained received) scaled-backed
 
   -- a month without arrears
-  module _ (clear : sum (arrears m received) (m .n) ≡ 0) where
-    revised-all : (i : ℕ) → revised m received i ≡ owingTo m i
+  module _ (clear : sum (arrears m retained received) (m .n) ≡ 0) where
+    -- each tier is met, ..
+    pub revised-all : (i : ℕ) → revised m retained received i ≡ owingTo m i
     unfolding revised available
-    revised-all i = met-all (m .n) (m .to) (available m received) (omega arith) i
+    revised-all i = met-all (m .n) (m .to) (available m retained received) (omega arith) i
 
-    deficit-none : deficit m received ≡ 0
+    deficit-none : deficit m retained received ≡ 0
     unfolding deficit scaledBelow
-    deficit-none = sum-zero (scaledBelow m received) (m .n) (λ i _. omega (arith, revised-all i))
+    deficit-none = sum-zero (scaledBelow m retained received) (m .n) (λ i _. omega (arith, revised-all i))
 
-    spent-none : spent m received ≡ start (m .n) (revised m received) (scaled m received) (deficit m received)
+    spent-none : spent m retained received ≡ start (m .n) (revised m retained received) (scaledAbove m retained received) (deficit m retained received)
     unfolding spent
-    spent-none = spread-none (m .n) (revised m received) (scaled m received) (deficit m received) deficit-none
+    spent-none = spread-none (m .n) (revised m retained received) (scaledAbove m retained received) (deficit m retained received) deficit-none
 
-    -- each claim is paid in full, and no round runs
-    pub paid-full : (i : ℕ) → paid m received i ≡ claim m received i
-    unfolding paid scaled
+    -- .. each claim is paid in full, and no round runs
+    pub paid-full : (i : ℕ) → paid m retained received i ≡ claim m retained received i
+    unfolding paid scaledAbove
     paid-full i = ap (λ (s : Standing). s .balance i) spent-none ∙ omega (arith, revised-all i)
 
-    pub rounds-none : rounds m received ≡ 0
+    pub rounds-none : rounds m retained received ≡ 0
     unfolding rounds
     rounds-none = ap (λ (s : Standing). s .rounds) spent-none
 
   -- equal sides, and nobody has paid more than is payable
-  module _ (even : sum (m .by) (m .n) ≡ sum (owingTo m) (m .n)) (fair : (i : ℕ) → i < m .n → received i ≤ payable m i) where
+  module _ (even : sum (m .by) (m .n) ≡ sum (owingTo m) (m .n)) (fair : (i : ℕ) → i < m .n → received i ≤ payable m retained i) where
     -- nothing is cut off in the available money
-    pub available-exact : available m received + sum (arrears m received) (m .n) ≡ sum (owingTo m) (m .n)
+    pub available-exact : available m retained received + sum (arrears m retained received) (m .n) ≡ sum (owingTo m) (m .n)
     unfolding available
-    available-exact = omega (arith, arrears-total-le m received)
+    available-exact = omega (arith, arrears-total-le m retained received sound)
 
     -- held money: the rest of a tier, and at most n - 1 by the rounding up of the rounds
-    pub paid-near : Near (sum (paid m received) (m .n)) (sum received (m .n)) (tierRest + (m .n - 1))
+    pub paid-near : Near (sum (paid m retained received) (m .n)) (sum received (m .n)) (tierRest + (m .n - 1))
     unfolding paid spent
     paid-near = omega (
       arith,
-      spread-ended (m .n) (revised m received) (scaled m received) (deficit m received) scaled-backed,
+      spread-ended (m .n) (revised m retained received) (scaledAbove m retained received) (deficit m retained received) scaled-backed,
       scaled-total,
       revised-total,
       available-exact,
-      claim-total m received even fair,
+      claim-total m retained received sound even fair,
     )
+
+    -- the deficit is met, and held is the rest of a tier and the rounding up of the rounds; or nothing is paid at all
+    pub held-cases : Near (sum (paid m retained received) (m .n) + tierRest) (sum received (m .n)) (m .n - 1)
+        ⊎ ((sum (paid m retained received) (m .n) ≡ 0) × (sum received (m .n) ≤ tierRest))
+    unfolding paid spent
+    held-cases =
+        let ended = spread-ended (m .n) (revised m retained received) (scaledAbove m retained received) (deficit m retained received) scaled-backed in
+        let c = claim-total m retained received sound even fair in
+        ⊎-elim
+        (λ (met : spread (m .n) (revised m retained received) (scaledAbove m retained received) (deficit m retained received) .deficit ≡ 0).
+        inl (omega (arith, ended, scaled-total, revised-total, available-exact, c)))
+        (λ (more : 0 < spread (m .n) (revised m retained received) (scaledAbove m retained received) (deficit m retained received) .deficit).
+        inr (omega (arith, ended, scaled-total, revised-total, available-exact, c)))
+        (eq-zero-or-pos _)
+
+    -- nothing is cut off in held money, and few cents are held
+    pub held-exact : held (m .n) received (paid m retained received) + sum (paid m retained received) (m .n) ≡ sum received (m .n)
+    unfolding held
+    held-exact = omega (arith, paid-near)
+
+    pub held-le : held (m .n) received (paid m retained received) ≤ 2 * (m .n - 1)
+    unfolding held
+    held-le = omega (arith, paid-near, tier-rest-le)

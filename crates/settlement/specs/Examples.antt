@@ -9,7 +9,7 @@ use Rattle.settlement.specs.Month.{Month, month}
 use Rattle.settlement.specs.Notice.{retention, payable}
 use Rattle.settlement.specs.Claims.{claim}
 use Rattle.settlement.specs.Rounds.{Standing, spread}
-use Rattle.settlement.specs.Settling.{scaled, scaledBelow, rounds, paid, held}
+use Rattle.settlement.specs.Settling.{scaledAbove, scaledBelow, rounds, paid, held}
 use Rattle.settlement.specs.Late.{latePayment}
 
 -- owing by 0: 600, by 2: 400; owing to 1: tier 1 100, tier 5 700, to 2: tier 5 200
@@ -27,7 +27,7 @@ abbrev pub receivedB : ℕ → ℕ
 receivedB = at (300 ∷ 0 ∷ 0 ∷ [])
 
 abbrev pub lateA : ℕ → ℕ
-lateA = latePayment (monthA .to) (claim monthA receivedA) (paid monthA receivedA) 3 (held 3 receivedA (paid monthA receivedA) + 100)
+lateA = latePayment (monthA .to) (claim monthA (retention monthA) receivedA) (paid monthA (retention monthA) receivedA) 3 (held 3 receivedA (paid monthA (retention monthA) receivedA) + 100)
 
 abbrev pub twoRounds : Standing
 twoRounds = spread 2 (at (10 ∷ 10 ∷ [])) (at (2 ∷ 20 ∷ [])) 10
@@ -37,9 +37,9 @@ pub record Examples : Type 0 where
   pub energy-down : energyCents 99 101 ≡ 11
   pub energy-half : energyCents 100 300 ≡ 35
   pub energy-none : energyCents 0 100 ≡ 0
-  pub noticeA : (table (retention monthA) 3 ≡ 0 ∷ 467 ∷ 134 ∷ []) × (table (payable monthA) 3 ≡ 600 ∷ 0 ∷ 334 ∷ [])
-  pub settledA : (table (paid monthA receivedA) 3 ≡ 0 ∷ 566 ∷ 67 ∷ []) × (held 3 receivedA (paid monthA receivedA) ≡ 1) × (rounds monthA receivedA ≡ 0)
-  pub late-A : (table lateA 3 ≡ 0 ∷ 78 ∷ 22 ∷ []) × (held 3 (at (400 ∷ 0 ∷ 334 ∷ [])) (λ i. paid monthA receivedA i + lateA i) ≡ 1)
-  pub noticeB : (table (retention monthB) 3 ≡ 0 ∷ 300 ∷ 100 ∷ []) × (table (payable monthB) 3 ≡ 300 ∷ 0 ∷ 400 ∷ [])
-  pub settledB : (table (scaled monthB receivedB) 3 ≡ 0 ∷ 375 ∷ 0 ∷ []) × (table (scaledBelow monthB receivedB) 3 ≡ 0 ∷ 0 ∷ 75 ∷ []) × (table (paid monthB receivedB) 3 ≡ 0 ∷ 300 ∷ 0 ∷ []) × (rounds monthB receivedB ≡ 1)
+  pub noticeA : (table (retention monthA) 3 ≡ 0 ∷ 467 ∷ 134 ∷ []) × (table (payable monthA (retention monthA)) 3 ≡ 600 ∷ 0 ∷ 334 ∷ [])
+  pub settledA : (table (paid monthA (retention monthA) receivedA) 3 ≡ 0 ∷ 566 ∷ 67 ∷ []) × (held 3 receivedA (paid monthA (retention monthA) receivedA) ≡ 1) × (rounds monthA (retention monthA) receivedA ≡ 0)
+  pub late-A : (table lateA 3 ≡ 0 ∷ 78 ∷ 22 ∷ []) × (held 3 (at (400 ∷ 0 ∷ 334 ∷ [])) (λ i. paid monthA (retention monthA) receivedA i + lateA i) ≡ 1)
+  pub noticeB : (table (retention monthB) 3 ≡ 0 ∷ 300 ∷ 100 ∷ []) × (table (payable monthB (retention monthB)) 3 ≡ 300 ∷ 0 ∷ 400 ∷ [])
+  pub settledB : (table (scaledAbove monthB (retention monthB) receivedB) 3 ≡ 0 ∷ 375 ∷ 0 ∷ []) × (table (scaledBelow monthB (retention monthB) receivedB) 3 ≡ 0 ∷ 0 ∷ 75 ∷ []) × (table (paid monthB (retention monthB) receivedB) 3 ≡ 0 ∷ 300 ∷ 0 ∷ []) × (rounds monthB (retention monthB) receivedB ≡ 1)
   pub two-rounds : (table (twoRounds .balance) 2 ≡ 0 ∷ 12 ∷ []) × (twoRounds .rounds ≡ 2)

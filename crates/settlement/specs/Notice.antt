@@ -1,7 +1,9 @@
 -- What a notice reckons: retention, payable amounts and full claims (01, Notice).
 -- Retention is by document 000, section 2, (1) and (1a), with every participant its own related group.
-use Prim.Native.Nat.{ℕ, _+_, _-_, _*_}
+use Prim.Native.Nat.{ℕ, _+_, _-_, _*_, _≤_}
+use mathlib.Core.Path.{_≡_}
 use mathlib.Core.Bool.{cond}
+use mathlib.Core.List.{List}
 use lib.Dec.{eqb, leb}
 use Rattle.exact.specs.Rows.{sum, largest, cells}
 use Rattle.exact.specs.Division.{ceilDiv}
@@ -25,14 +27,26 @@ module _ (m : Month) where
   unfoldable pub retention : ℕ → ℕ
   retention i = largest (λ p. gives (shortfall p) (othersTier5 p) (tier5 m i)) (m .n)
 
+-- a row of retention, however it was reckoned: at most the tier 5 part
+pub record Retained (m : Month) (retained : ℕ → ℕ) : Type 0 where
+  pub within : (i : ℕ) → retained i ≤ tier5 m i
+
+-- `retained i` is A_i
+module _ (m : Month) (retained : ℕ → ℕ) where
   -- P_i = max(0, B_i − O_i + A_i) (14.22(1))
   unfoldable pub payable : ℕ → ℕ
-  payable i = (m .by i + retention i) - owingTo m i
+  payable i = (m .by i + retained i) - owingTo m i
 
   -- F_i = O_i − B_i + P_i (14.22(2))
   unfoldable pub fullClaim : ℕ → ℕ
   fullClaim i = (owingTo m i + payable i) - m .by i
 
-  -- what a notice hands on
-  unfoldable pub noticed : Noticed
-  noticed = record { retention = cells retention (m .n); payable = cells payable (m .n) }
+-- what a notice hands on
+abbrev pub noticed : Month → Noticed
+noticed m = record { retention = cells (retention m) (m .n); payable = cells (payable m (retention m)) (m .n) }
+
+-- the row that a notice handed on as payable
+pub record Due (m : Month) (payables : List ℕ) : Type 0 where
+  pub retained : ℕ → ℕ
+  pub sound : Retained m retained
+  pub row : payables ≡ cells (payable m retained) (m .n)

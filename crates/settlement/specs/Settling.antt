@@ -8,30 +8,31 @@ use Rattle.settlement.specs.Rounds.{Standing, spread}
 use Rattle.settlement.specs.declared.scaling.Scaled.{Scaled}
 use Rattle.settlement.specs.declared.settling.Settled.{Settled}
 
-module _ (m : Month) (received : ℕ → ℕ) where
+-- `retained i` is A_i, `received i` the receipts of i before settlement
+module _ (m : Month) (retained received : ℕ → ℕ) where
   -- step 2: available money
   unfoldable pub available : ℕ
-  available = sum (owingTo m) (m .n) - sum (arrears m received) (m .n)
+  available = sum (owingTo m) (m .n) - sum (arrears m retained received) (m .n)
 
   -- V_i, the sum of i's revised amounts
   unfoldable pub revised : ℕ → ℕ
   revised i = met (m .n) (m .to) available i
 
   -- step 3: the scaled amount C_i − (O_i − V_i) (14.58) where it is positive ..
-  unfoldable pub scaled : ℕ → ℕ
-  scaled i = (claim m received i + revised i) - owingTo m i
+  unfoldable pub scaledAbove : ℕ → ℕ
+  scaledAbove i = (claim m retained received i + revised i) - owingTo m i
 
   -- .. and where it is negative, with its sign turned
   unfoldable pub scaledBelow : ℕ → ℕ
-  scaledBelow i = owingTo m i - (claim m received i + revised i)
+  scaledBelow i = owingTo m i - (claim m retained received i + revised i)
 
   -- what steps 1 to 3 hand on
-  unfoldable pub scaledAmounts : Scaled
+  abbrev pub scaledAmounts : Scaled
   scaledAmounts = record {
-    claims = cells (claim m received) (m .n);
-    arrears = cells (arrears m received) (m .n);
+    claims = cells (claim m retained received) (m .n);
+    arrears = cells (arrears m retained received) (m .n);
     revised = cells revised (m .n);
-    above = cells scaled (m .n);
+    above = cells scaledAbove (m .n);
     below = cells scaledBelow (m .n);
   }
 
@@ -41,7 +42,7 @@ module _ (m : Month) (received : ℕ → ℕ) where
 
   -- where the rounds end; an amount that is negative starts them as a balance of 0 (14.59(4)(a))
   unfoldable pub spent : Standing
-  spent = spread (m .n) revised scaled deficit
+  spent = spread (m .n) revised scaledAbove deficit
 
   unfoldable pub rounds : ℕ
   rounds = spent .rounds
@@ -51,11 +52,11 @@ module _ (m : Month) (received : ℕ → ℕ) where
   paid i = spent .balance i
 
   -- what a settlement hands on
-  unfoldable pub settled : Settled
+  abbrev pub settled : Settled
   settled = record {
     rounds = rounds;
-    claims = cells (claim m received) (m .n);
-    arrears = cells (arrears m received) (m .n);
+    claims = cells (claim m retained received) (m .n);
+    arrears = cells (arrears m retained received) (m .n);
     paid = cells paid (m .n);
   }
 

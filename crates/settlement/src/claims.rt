@@ -6,14 +6,15 @@ use exact::excesses;
 use exact::minima;
 use exact::sums;
 ghost use mathlib.Core.Path.{_≡_};
+ghost use Prim.Native.Nat.{ℕ};
 ghost use Rattle.exact.specs.Rows.{at, cells};
 ghost use Rattle.settlement.specs.Month.{month, Bounded};
-ghost use Rattle.settlement.specs.Notice.{payable};
+ghost use Rattle.settlement.specs.Notice.{Retained, Due, payable};
 ghost use Rattle.settlement.specs.Claims.{claimed};
 
 // What step 1 hands on.
 pub struct Claimed {
-    pub owed: Row,
+    pub owing: Row,
     pub claims: Row,
     pub arrears: Row,
 }
@@ -21,18 +22,18 @@ pub struct Claimed {
 // The claims and arrears of a month. Where anything is unpaid the full claim is the retention, so that the set-off needs
 // no retention reckoned anew.
 pub fn claim(by: Row, to: TierCells, payables: Row, received: Row, n: usize) -> Claimed
-    requires { ⌜ Bounded (month n by to) × (payables ≡ cells (payable (month n by to)) n) ⌝ }
-    ensures { λ r. ⌜ r ≡ claimed (month n by to) (at received) ⌝ }
+    requires { ⌜ Bounded (month n by to) × Due (month n by to) payables ⌝ }
+    ensures { λ r. ⌜ ((retained : ℕ → ℕ) → Retained (month n by to) retained → payables ≡ cells (payable (month n by to) retained) n → r ≡ claimed (month n by to) retained (at received)) ⌝ }
 {
-    let owed = over_tiers(to, n);
-    let covered = sums(owed, payables, n);
-    let full = excesses(covered, by, n);
+    let owing = over_tiers(to, n);
+    let owing_and_payable = sums(owing, payables, n);
+    let full = excesses(owing_and_payable, by, n);
     let unpaid = excesses(payables, received, n);
     let set_off = minima(unpaid, full, n);
     let arrears = excesses(unpaid, set_off, n);
     let claims = excesses(full, set_off, n);
     Claimed {
-        owed,
+        owing,
         claims,
         arrears,
     }

@@ -13,7 +13,7 @@ ghost use Rattle.exact.specs.Rows.{places, at, sum, cells};
 ghost use Rattle.settlement.specs.Month.{sideLimit, tierAt, tierCells, overTiers};
 ghost use Rattle.settlement.specs.Late.{shortage, latePayment};
 
-// What is missing in tier t of a claim, of which some was paid, where the tier holds `own` and those before it `before`.
+// What is missing in tier t of a claim, of which some was paid, whose owner has `own` in this tier and `before` in those before it.
 fn missing(own: u64, before: u64, claim: u64, paid: u64) -> u64
     ensures { λ r. ⌜ r ≡ min own (claim - before) - min own (paid - before) ⌝ }
 {

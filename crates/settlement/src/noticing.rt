@@ -23,12 +23,12 @@ pub fn notice(by: Row, to: TierCells, n: usize) -> Noticed
     requires { ⌜ Bounded (month n by to) ⌝ }
     ensures { λ r. ⌜ r ≡ noticed (month n by to) ⌝ }
 {
-    let owed = over_tiers(to, n);
+    let owing = over_tiers(to, n);
     let parts = tier(to, LAST_TIER, n);
-    let shortfalls = excesses(by, owed, n);
+    let shortfalls = excesses(by, owing, n);
     let others = others_totals(parts, n);
     let retention = largest_gifts(shortfalls, others, parts, n);
-    let due = sums(by, retention, n);
-    let payable = excesses(due, owed, n);
+    let by_and_retention = sums(by, retention, n);
+    let payable = excesses(by_and_retention, owing, n);
     Noticed { retention, payable }
 }

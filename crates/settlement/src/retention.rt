@@ -58,7 +58,7 @@ fn gift(s: u64, g: u64, part: u64) -> u64
     proportion_up(part, s, g)
 }
 
-// The largest that any p gives it.
+// The largest that any p gives such a participant.
 fn largest_gift(shortfalls: Row, others: Row, part: u64, n: usize) -> u64
     requires { ⌜ (n ≤ places) × (part < 2 ^ 44) × ((p : ℕ) → p < n → at others p < 2 ^ 44) ⌝ }
     ensures { λ r. ⌜ r ≡ largest (λ p. gives (at shortfalls p) (at others p) part) n ⌝ }

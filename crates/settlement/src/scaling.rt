@@ -8,9 +8,10 @@ use exact::excesses;
 use exact::sums;
 use exact::total;
 ghost use mathlib.Core.Path.{_≡_};
+ghost use Prim.Native.Nat.{ℕ};
 ghost use Rattle.exact.specs.Rows.{at, cells};
 ghost use Rattle.settlement.specs.Month.{month, Bounded};
-ghost use Rattle.settlement.specs.Notice.{payable};
+ghost use Rattle.settlement.specs.Notice.{Retained, Due, payable};
 ghost use Rattle.settlement.specs.Settling.{scaledAmounts};
 
 // What steps 1 to 3 hand on. Scaled amounts are in two rows: `above` where they are positive, `below`, with the sign turned, where they are negative.
@@ -24,18 +25,18 @@ pub struct Scaled {
 
 // The claims, revised amounts and scaled amounts of a month, from its sums, what is payable and what was received.
 pub fn scale(by: Row, to: TierCells, payables: Row, received: Row, n: usize) -> Scaled
-    requires { ⌜ Bounded (month n by to) × (payables ≡ cells (payable (month n by to)) n) ⌝ }
-    ensures { λ r. ⌜ r ≡ scaledAmounts (month n by to) (at received) ⌝ }
+    requires { ⌜ Bounded (month n by to) × Due (month n by to) payables ⌝ }
+    ensures { λ r. ⌜ ((retained : ℕ → ℕ) → Retained (month n by to) retained → payables ≡ cells (payable (month n by to) retained) n → r ≡ scaledAmounts (month n by to) retained (at received)) ⌝ }
 {
     let c = claim(by, to, payables, received, n);
-    let owed = c.owed;
+    let owing = c.owing;
     let claims = c.claims;
     let arrears = c.arrears;
-    let available = excess(total(owed, n), total(arrears, n));
+    let available = excess(total(owing, n), total(arrears, n));
     let revised = meet_tiers(to, available, n);
-    let covered = sums(claims, revised, n);
-    let above = excesses(covered, owed, n);
-    let below = excesses(owed, covered, n);
+    let claims_and_revised = sums(claims, revised, n);
+    let above = excesses(claims_and_revised, owing, n);
+    let below = excesses(owing, claims_and_revised, n);
     Scaled {
         claims,
         arrears,

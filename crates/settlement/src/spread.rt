@@ -13,6 +13,7 @@ ghost use Prim.Native.Nat.{_≤_, _<_};
 ghost use Rattle.exact.specs.Rows.{places, at, sum, cells};
 ghost use Rattle.settlement.specs.Rounds.{weight, loss, spread, Backing};
 
+// The balances that the rounds leave, and how many rounds ran.
 pub struct Spent {
     pub rounds: u64,
     pub balances: Row,
@@ -51,26 +52,26 @@ fn losses(balances: Row, deficit: u64, revised: Row, n: usize) -> Row
     out
 }
 
-// The balances that the rounds leave, and how many rounds ran.
+// Runs rounds while a deficit remains and some balance is positive.
 pub fn spread(balances: Row, deficit: u64, revised: Row, n: usize) -> Spent
     requires { ⌜ Backing n (at revised) (at balances) deficit × (balances ≡ cells (at balances) n) ⌝ }
     ensures { λ r. ⌜ (r .rounds ≡ spread n (at revised) (at balances) deficit .rounds) × (r .balances ≡ cells (spread n (at revised) (at balances) deficit .balance) n) ⌝ }
 {
     let mut left = balances;
-    let mut short = deficit;
+    let mut remaining = deficit;
     let mut count = 0u64;
     let rounds = loop {
-        if short == 0 {
+        if remaining == 0 {
             break count;
         }
         let sum = total(left, n);
         if sum == 0 {
             break count;
         }
-        let lost = losses(left, short, revised, n);
+        let lost = losses(left, remaining, revised, n);
         let next = excesses(left, lost, n);
         left = next;
-        short = excess(short, total(lost, n));
+        remaining = excess(remaining, total(lost, n));
         count += 1;
     };
     Spent {

@@ -7,9 +7,9 @@ use native.Mathlib.Omega.{arith}
 use Rattle.exact.specs.Rows.{at, sum, cells}
 use Rattle.exact.proofs.RowLaws.{cells-both, cells-cong, Holds, holds, holds-own, sum-holds, sum-cong, sum-term, largest-cong}
 use Rattle.settlement.specs.Month.{month, owingTo, tier5, lastTier, sideLimit}
-use Rattle.settlement.specs.Notice.{shortfall, othersTier5, retention, payable, noticed}
+use Rattle.settlement.specs.Notice.{shortfall, othersTier5, retention, payable}
 use Rattle.settlement.proofs.MonthLaws.{by-bound, to-bound, tier5-le, tier-total-le}
-use Rattle.settlement.proofs.NoticeLaws.{others-tier5-le, retention-le}
+use Rattle.settlement.proofs.RetentionLaws.{others-tier5-le, retention-sound}
 use Rattle.settlement.proofs.noticing.notice.Statement.{statement}
 use Rattle.settlement.proofs.noticing.notice.Tie as tie
 
@@ -69,20 +69,20 @@ sums-requires : tie.Need-sums-requires
 sums-requires c κs =
     let s = c .before .before .before .before .before in
     let m = month (s .args .n) (s .args .by) (s .args .to) in
-    (s .pre .few, λ i h. omega (arith, holds _ _ (kept c) .reads i h, by-bound m (s .pre) i h, to-bound m (s .pre) i h, retention-le m i, tier5-le m i))
+    (s .pre .few, λ i h. omega (arith, holds _ _ (kept c) .reads i h, by-bound m (s .pre) i h, to-bound m (s .pre) i h, retention-sound m .within i, tier5-le m i))
 
 excesses-requires-2 : tie.Need-excesses-requires-2
 excesses-requires-2 c κs = c .before .before .before .before .before .before .pre .few
 
 returns : tie.Need-returns
-unfolding noticed payable
+unfolding payable
 returns c =
     let g = c .before .before in
     let a = g .before .before .before .before in
     let x = a .before .args in
     let m = month (x .n) (x .by) (x .to) in
     let due = c .before .sums .ensures ∙ cells-both _+_ (holds-own (x .by) (x .n)) (holds (retention m) (x .n) (kept g)) in
-    let net : c .excesses2 .result ≡ cells (payable m) (x .n) =
+    let net : c .excesses2 .result ≡ cells (payable m (retention m)) (x .n) =
     c .excesses2 .ensures ∙ cells-both _-_ (holds _ (x .n) due) (holds (owingTo m) (x .n) (a .over-tiers .ensures)) in
     λ z. record { retention = kept g z; payable = net z }
 

@@ -6,7 +6,7 @@ use native.Mathlib.Omega.{arith}
 use lib.Dec.{eqb}
 use Rattle.exact.specs.Rows.{at, sum}
 use Rattle.exact.proofs.RowLaws.{sum-none, sum-more, sum-part}
-use Rattle.settlement.proofs.NoticeLaws.{others-le}
+use Rattle.settlement.proofs.RetentionLaws.{others-le}
 use Rattle.settlement.proofs.retention.others_total.Statement.{statement}
 use Rattle.settlement.proofs.retention.others_total.Tie as tie
 

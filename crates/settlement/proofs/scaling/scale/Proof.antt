@@ -6,8 +6,9 @@ use native.Mathlib.Omega.{arith}
 use Rattle.exact.specs.Rows.{at, cells}
 use Rattle.exact.proofs.RowLaws.{cells-both, holds, sum-holds}
 use Rattle.settlement.specs.Month.{Month, month, owingTo}
+use Rattle.settlement.specs.Notice.{Retained, payable}
 use Rattle.settlement.specs.Claims.{claim, arrears, claimed}
-use Rattle.settlement.specs.Settling.{available, revised, scaled, scaledBelow, scaledAmounts}
+use Rattle.settlement.specs.Settling.{available, revised, scaledAbove, scaledBelow}
 use Rattle.settlement.specs.declared.claims.Claimed.{Claimed}
 use Rattle.settlement.proofs.MonthLaws.{to-bound}
 use Rattle.settlement.proofs.ClaimLaws.{claim-le, arrears-total-le}
@@ -15,53 +16,63 @@ use Rattle.settlement.proofs.SettleLaws.{revised-le}
 use Rattle.settlement.proofs.scaling.scale.Statement.{statement}
 use Rattle.settlement.proofs.scaling.scale.Tie as tie
 
--- what step 1 handed on
-module _ (c : tie.After-claim) where
-  abbrev n : ℕ
-  n = c .before .args .n
+abbrev n : tie.After-claim → ℕ
+n c = c .before .args .n
 
-  abbrev m : Month
-  m = month n (c .before .args .by) (c .before .args .to)
+abbrev m : tie.After-claim → Month
+m c = month (n c) (c .before .args .by) (c .before .args .to)
 
-  abbrev r : ℕ → ℕ
-  r = at (c .before .args .received)
+abbrev r : tie.After-claim → ℕ → ℕ
+r c = at (c .before .args .received)
 
-  owed : c .claim .result .owed ≡ cells (owingTo m) n
-  unfolding claimed
-  owed = ap (λ (k : Claimed). k .owed) (c .claim .ensures)
+-- what step 1 handed on, by any retention that the payable row can have come from
+module _ (c : tie.After-claim) (kept : ℕ → ℕ) (sound : Retained (m c) kept) (due : c .before .args .payables ≡ cells (payable (m c) kept) (n c)) where
+  abbrev step1 : c .claim .result ≡ claimed (m c) kept (r c)
+  step1 = c .claim .ensures kept sound due
 
-  claims : c .claim .result .claims ≡ cells (claim m r) n
-  unfolding claimed
-  claims = ap (λ (k : Claimed). k .claims) (c .claim .ensures)
+  owing : c .claim .result .owing ≡ cells (owingTo (m c)) (n c)
+  owing = ap (λ (k : Claimed). k .owing) step1
 
-  behind : c .claim .result .arrears ≡ cells (arrears m r) n
-  unfolding claimed
-  behind = ap (λ (k : Claimed). k .arrears) (c .claim .ensures)
+  claims : c .claim .result .claims ≡ cells (claim (m c) kept (r c)) (n c)
+  claims = ap (λ (k : Claimed). k .claims) step1
+
+  behind : c .claim .result .arrears ≡ cells (arrears (m c) kept (r c)) (n c)
+  behind = ap (λ (k : Claimed). k .arrears) step1
 
 -- the available money, and the revised amounts
-money : (c : tie.After-excess) → let a = c .before .before .before .before .before .before in c .excess .result ≡ available (m a) (r a)
-unfolding available
-money c =
-    let a = c .before .before .before .before .before .before in
-    c .excess .ensures ∙ ap₂ _-_ (c .before .before .total .ensures ∙ sum-holds (holds _ _ (owed a))) (c .before .total2 .ensures ∙ sum-holds (holds _ _ (behind a)))
+module _ (c : tie.After-excess) where
+  abbrev a : tie.After-claim
+  a = c .before .before .before .before .before .before
 
-met-row : (c : tie.After-meet-tiers) → let a = c .before .before .before .before .before .before .before in
-    c .meet-tiers .result ≡ cells (revised (m a) (r a)) (n a)
+  money : (kept : ℕ → ℕ) (sound : Retained (m a) kept) → a .before .args .payables ≡ cells (payable (m a) kept) (n a)
+      → c .excess .result ≡ available (m a) kept (r a)
+  unfolding available
+  money kept sound due =
+      c .excess .ensures ∙ ap₂ _-_ (c .before .before .total .ensures ∙ sum-holds (holds _ _ (owing a kept sound due)))
+      (c .before .total2 .ensures ∙ sum-holds (holds _ _ (behind a kept sound due)))
+
+met-row : (c : tie.After-meet-tiers) (kept : ℕ → ℕ) (sound : Retained (m (a (c .before))) kept)
+    → a (c .before) .before .args .payables ≡ cells (payable (m (a (c .before))) kept) (n (a (c .before)))
+    → c .meet-tiers .result ≡ cells (revised (m (a (c .before))) kept (r (a (c .before)))) (n (a (c .before)))
 unfolding revised
-met-row c = rw (money (c .before)) at (c .meet-tiers .ensures)
+met-row c kept sound due = rw (money (c .before) kept sound due) at (c .meet-tiers .ensures)
 
 claim-requires : tie.Need-claim-requires
 claim-requires c κs = search needs
 
 total-requires : tie.Need-total-requires
 total-requires c κs =
-    let a = c .before .before .before in
-    (a .before .pre .0 .few, omega (arith, sum-holds (holds _ _ (owed a)), a .before .pre .0 .to-total))
+    let s = c .before .before .before in
+    let d = s .before .pre .1 in
+    (s .before .pre .0 .few, omega (arith, sum-holds (holds _ _ (owing s (d .retained) (d .sound) (d .row))), s .before .pre .0 .to-total))
 
 total-requires-2 : tie.Need-total-requires-2
 total-requires-2 c κs =
-    let a = c .before .before .before .before in
-    (a .before .pre .0 .few, omega (arith, sum-holds (holds _ _ (behind a)), a .before .pre .0 .by-total, arrears-total-le (m a) (r a)))
+    let s = c .before .before .before .before in
+    let d = s .before .pre .1 in (
+      s .before .pre .0 .few,
+      omega (arith, sum-holds (holds _ _ (behind s (d .retained) (d .sound) (d .row))), s .before .pre .0 .by-total, arrears-total-le (m s) (d .retained) (r s) (d .sound)),
+    )
 
 excess-requires : tie.Need-excess-requires
 excess-requires c κs = search needs
@@ -73,10 +84,18 @@ meet-tiers-requires c κs =
 
 sums-requires : tie.Need-sums-requires
 sums-requires c κs =
-    let a = c .before .before .before .before .before .before .before in
-    let pre = a .before .pre .0 in (
+    let s = a (c .before) in
+    let pre = s .before .pre .0 in
+    let d = s .before .pre .1 in (
       pre .few,
-      λ i h. omega (arith, holds _ _ (claims a) .reads i h, holds _ _ (met-row c) .reads i h, to-bound (m a) pre i h, claim-le (m a) (r a) i, revised-le (m a) (r a) i),
+      λ i h. omega (
+        arith,
+        holds _ _ (claims s (d .retained) (d .sound) (d .row)) .reads i h,
+        holds _ _ (met-row c (d .retained) (d .sound) (d .row)) .reads i h,
+        to-bound (m s) pre i h,
+        claim-le (m s) (d .retained) (r s) (d .sound) i,
+        revised-le (m s) (d .retained) (r s) (d .sound) i,
+      ),
     )
 
 excesses-requires : tie.Need-excesses-requires
@@ -86,16 +105,18 @@ excesses-requires-2 : tie.Need-excesses-requires-2
 excesses-requires-2 c κs = search needs
 
 returns : tie.Need-returns
-unfolding scaledAmounts scaled scaledBelow
-returns c =
+unfolding scaledAbove scaledBelow
+returns c kept sound due =
     let v = c .before .before .before in
-    let a = v .before .before .before .before .before .before .before in
-    let covered = c .before .before .sums .ensures ∙ cells-both _+_ (holds (claim (m a) (r a)) (n a) (claims a)) (holds (revised (m a) (r a)) (n a) (met-row v)) in
-    let above : c .before .excesses .result ≡ cells (scaled (m a) (r a)) (n a) =
-    c .before .excesses .ensures ∙ cells-both _-_ (holds _ (n a) covered) (holds (owingTo (m a)) (n a) (owed a)) in
-    let below : c .excesses2 .result ≡ cells (scaledBelow (m a) (r a)) (n a) =
-    c .excesses2 .ensures ∙ cells-both _-_ (holds (owingTo (m a)) (n a) (owed a)) (holds _ (n a) covered) in
-    λ z. record { claims = claims a z; arrears = behind a z; revised = met-row v z; above = above z; below = below z }
+    let s = a (v .before) in
+    let row = met-row v kept sound due in
+    let both = c .before .before .sums .ensures ∙ cells-both _+_ (holds (claim (m s) kept (r s)) (n s) (claims s kept sound due)) (holds (revised (m s) kept (r s)) (n s) row) in
+    let o = holds (owingTo (m s)) (n s) (owing s kept sound due) in
+    let above : c .before .excesses .result ≡ cells (scaledAbove (m s) kept (r s)) (n s) =
+    c .before .excesses .ensures ∙ cells-both _-_ (holds _ (n s) both) o in
+    let below : c .excesses2 .result ≡ cells (scaledBelow (m s) kept (r s)) (n s) =
+    c .excesses2 .ensures ∙ cells-both _-_ o (holds _ (n s) both) in
+    λ z. record { claims = claims s kept sound due z; arrears = behind s kept sound due z; revised = row z; above = above z; below = below z }
 
 pub scale-spec : {M : Type 1} → statement M
 scale-spec =

@@ -13,26 +13,26 @@ use Rattle.settlement.proofs.spread.spread.Statement.{statement}
 use Rattle.settlement.proofs.spread.spread.Tie as tie
 
 abbrev Inv-loop : tie.InvT-loop
-Inv-loop deficit revised n left₀ short₀ count₀ left short count = Running n (at revised) (at left₀) deficit left short count
+Inv-loop deficit revised n left₀ remaining₀ count₀ left remaining count = Running n (at revised) (at left₀) deficit left remaining count
 
 abbrev μ-loop : tie.MeasureT-loop
-μ-loop deficit revised n left₀ short₀ count₀ left short count = n - count
+μ-loop deficit revised n left₀ remaining₀ count₀ left remaining count = n - count
 
 -- a round that runs has a deficit and a positive balance before it
-short-some : (c : tie.Else2 Inv-loop μ-loop) → 0 < c .before .before .before .loop .short
-short-some c = pos-of-ne-zero (c .before .before .if1 .left)
+deficit-some : (c : tie.Else2 Inv-loop μ-loop) → 0 < c .before .before .before .loop .remaining
+deficit-some c = pos-of-ne-zero (c .before .before .if1 .left)
 
 left-some : (c : tie.Else2 Inv-loop μ-loop) → 0 < sum (at (c .before .before .before .loop .left)) (c .before .before .before .before .args .n)
 left-some c = pos-of-ne-zero (λ e. c .if2 .left (c .before .total .ensures ∙ e))
 
 -- what all lose
 lost-total : (c : tie.After-losses Inv-loop μ-loop) → let l = c .before .before .before .before .loop in let x = c .before .before .before .before .before .args in
-    sum (at (c .losses .result)) (x .n) ≡ sum (loss (x .n) (at (x .revised)) (at (l .left)) (l .short)) (x .n)
+    sum (at (c .losses .result)) (x .n) ≡ sum (loss (x .n) (at (x .revised)) (at (l .left)) (l .remaining)) (x .n)
 lost-total c = sum-holds (holds _ _ (c .losses .ensures))
 
 -- what is left
 left-next : (c : tie.After-excesses Inv-loop μ-loop) → let l = c .before .before .before .before .before .loop in let x = c .before .before .before .before .before .before .args in
-    c .excesses .result ≡ cells (λ i. at (l .left) i - loss (x .n) (at (x .revised)) (at (l .left)) (l .short) i) (x .n)
+    c .excesses .result ≡ cells (λ i. at (l .left) i - loss (x .n) (at (x .revised)) (at (l .left)) (l .remaining) i) (x .n)
 left-next c =
     let l = c .before .before .before .before .before .loop in
     c .excesses .ensures ∙ cells-both _-_ (holds-own (l .left) _) (holds _ _ (c .before .losses .ensures))
@@ -54,7 +54,7 @@ total-requires-2 c κs =
     let l = c .before .before .before .before .before .loop in
     let x = c .before .before .before .before .before .before .args in (
       l .inv .backing .few,
-      omega (arith, lost-total (c .before), running-bound _ _ _ _ (l .inv), sum-mono (loss (x .n) (at (x .revised)) (at (l .left)) (l .short)) (at (l .left)) (x .n) (λ i _. loss-le (x .n) (at (x .revised)) (at (l .left)) (l .short) i)),
+      omega (arith, lost-total (c .before), running-bound _ _ _ _ (l .inv), sum-mono (loss (x .n) (at (x .revised)) (at (l .left)) (l .remaining)) (at (l .left)) (x .n) (λ i _. loss-le (x .n) (at (x .revised)) (at (l .left)) (l .remaining) i)),
     )
 
 excess-requires : tie.Need-excess-requires Inv-loop μ-loop
@@ -63,19 +63,19 @@ excess-requires c κs = search needs
 add-count : tie.Need-add-count Inv-loop μ-loop
 add-count c =
     let r = c .before .before .before .before in
-    omega (arith, running-less _ _ _ _ (r .before .before .before .loop .inv) (short-some r) (left-some r))
+    omega (arith, running-less _ _ _ _ (r .before .before .before .loop .inv) (deficit-some r) (left-some r))
 
 loop-less : tie.Need-loop-less Inv-loop μ-loop
 loop-less c =
     let r = c .before .before .before .before in
-    omega (arith, running-less _ _ _ _ (r .before .before .before .loop .inv) (short-some r) (left-some r))
+    omega (arith, running-less _ _ _ _ (r .before .before .before .loop .inv) (deficit-some r) (left-some r))
 
 loop-again : tie.Need-loop-again Inv-loop μ-loop
 loop-again c =
     let t = c .before .before .before in
     let r = t .before in
     rw (left-next (c .before .before), c .excess .ensures, c .before .total2 .ensures, lost-total t)
-    (running-step _ _ _ _ (r .before .before .before .loop .inv) (short-some r) (left-some r))
+    (running-step _ _ _ _ (r .before .before .before .loop .inv) (deficit-some r) (left-some r))
 
 returns : tie.Need-returns Inv-loop μ-loop
 returns c = running-done _ _ _ _ (c .before .loop .inv) (c .if1 .taken)
