@@ -1,13 +1,13 @@
 -- Laws of kinds, layouts and allowed values.
-use mathlib.Core.Path.{_≡_, refl, ap, ap₂, _∙_}
+use mathlib.Core.Path.{_≡_, refl, _∙_}
 use mathlib.Core.Bool.{Bool, true, false, cond, not, true≢false}
-use mathlib.Core.List.{List, [], _∷_, _++_}
+use mathlib.Core.List.{List, _++_}
 use Prim.Native.Nat.{ℕ, zero, suc, _+_, _^_, _≤_, _<_}
 use native.Mathlib.Nat.{zero-add, pos-of-ne-zero}
 use native.Mathlib.Omega.{arith}
 use borrow.Author.Tests.{ltb-false, leb-false, eqb-true, eqb-false}
 use lib.Dec.{eqb, ltb, leb}
-use lib.ListN.{length, getD, drop, length-append}
+use lib.ListN.{length, drop}
 use lib.Seq.{sets, sets-eq}
 use Rattle.exact.specs.Rows.{places}
 use Rattle.exact.specs.Energy.{quantityLimit, priceLimit}
@@ -19,7 +19,7 @@ use Rattle.book.specs.RoundTrips.{periodOf}
 use Rattle.book.specs.declared.entries.Entry.{Entry}
 use Rattle.book.specs.declared.entries.Entry.the-variants.{Open, Energy, Amount, Notice, Receipt, Settle}
 use Rattle.book.proofs.CheckLaws.{none-all}
-use Rattle.book.proofs.FieldLaws.{Fit, total, bytes-length}
+use Rattle.book.proofs.FieldLaws.{Fit, total}
 
 known : (kind : ℕ) → unknown kind ≡ false → (0 < kind) × (kind < 7)
 known kind h = go (eqb kind 0) refl h

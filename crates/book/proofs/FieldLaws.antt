@@ -5,7 +5,7 @@ use Prim.Native.Nat.{ℕ, zero, suc, _+_, _-_, _*_, _/_, _%_, _^_, _≤_, _<_}
 use native.Mathlib.Nat.{pow-suc, add-suc, suc-add, add-zero, zero-add}
 use native.Mathlib.Numerals.{add-one}
 use native.Mathlib.Omega.{arith}
-use lib.ListN.{length, getD, set, take, drop, length-append}
+use lib.ListN.{length, getD, set, take, drop}
 use lib.Seq.{sets, getD-drop, drop-drop, drop-cons, drop-at, take-add}
 use Rattle.book.specs.Fields.{number, bytes, fieldsAt, fieldBytes}
 
@@ -48,7 +48,7 @@ unfolding number bytes
 number-bytes zero v after h = omega arith
 number-bytes (suc k) v after h =
     let rest : number k (v % 256 ∷ (bytes k (v / 256) ++ after)) 1 ≡ v / 256 =
-        number-drop k (v % 256 ∷ (bytes k (v / 256) ++ after)) 1 ∙ number-bytes k (v / 256) after (omega (arith, pow-suc 256 k)) in
+    number-drop k (v % 256 ∷ (bytes k (v / 256) ++ after)) 1 ∙ number-bytes k (v / 256) after (omega (arith, pow-suc 256 k)) in
     rw rest (omega arith)
 
 -- the number in k bytes has just those bytes

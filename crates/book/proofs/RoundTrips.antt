@@ -1,21 +1,20 @@
 -- Reading and writing undo each other, by the laws of fields and of layouts.
-use mathlib.Core.Path.{_≡_, refl, sym, ap, _∙_}
-use mathlib.Core.Bool.{Bool, true, false, cond, not, true≢false}
+use mathlib.Core.Path.{_≡_, refl, ap}
+use mathlib.Core.Bool.{Bool, true, false, cond, not}
 use mathlib.Core.List.{List, [], _∷_, _++_, append-assoc}
-use Prim.Native.Nat.{ℕ, suc, _+_, _-_, _^_, _≤_, _<_}
-use native.Mathlib.Nat.{add-suc}
+use Prim.Native.Nat.{ℕ, suc, _+_, _-_, _≤_, _<_}
 use native.Mathlib.Numerals.{add-one}
 use native.Mathlib.Omega.{arith}
-use borrow.Author.Tests.{lt-leb, le-ltb, eqb-true, ltb-false, leb-false, not-false}
+use borrow.Author.Tests.{lt-leb, le-ltb, eqb-true, ltb-false}
 use lib.Dec.{eqb, ltb, leb}
 use lib.ListN.{getD, length, take, drop, length-append}
 use lib.Seq.{drop-at, getD-at, drop-drop, drop-cons}
 use Rattle.book.specs.Checks.{Check, refusal}
-use Rattle.book.specs.Fields.{fieldsAt, fieldBytes}
-use Rattle.book.specs.Entries.{bodyLength, unknown, layout, kindOf, fieldsOf, entryOf, bytesOf, size}
+use Rattle.book.specs.Fields.{fieldBytes}
+use Rattle.book.specs.Entries.{bodyLength, unknown, layout, kindOf, fieldsOf, bytesOf, size}
 use Rattle.book.specs.Allowed.{allowed}
 use Rattle.book.specs.Codec.{ReadOutcome, kindAt, nextPlace, entryAt, readChecks, reading}
-use Rattle.book.specs.RoundTrips.{periodOf, WrittenThenRead, ReadThenWritten}
+use Rattle.book.specs.RoundTrips.{WrittenThenRead, ReadThenWritten}
 use Rattle.book.specs.declared.entries.Entry.{Entry}
 use Rattle.book.proofs.CheckLaws.{passes}
 use Rattle.book.proofs.FieldLaws.{Fit, total, fields-drop, fields-bytes, bytes-fields}

@@ -1,4 +1,3 @@
-use borrow.Author.Needs.{needs}
 use borrow.Author.Tests.{eq-eqb, ne-eqb}
 use Rattle.book.specs.Allowed.{centsLimit}
 use Rattle.book.proofs.CheckLaws.{within-last}

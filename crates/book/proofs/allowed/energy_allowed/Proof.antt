@@ -1,4 +1,3 @@
-use borrow.Author.Needs.{needs}
 use borrow.Author.Tests.{lt-ltb, le-ltb, le-leb, lt-leb}
 use Rattle.exact.specs.Energy.{priceLimit}
 use Rattle.book.proofs.CheckLaws.{within-last}

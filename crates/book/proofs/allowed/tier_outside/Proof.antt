@@ -1,4 +1,3 @@
-use borrow.Author.Needs.{needs}
 use borrow.Author.Tests.{eq-eqb, ne-eqb}
 use Rattle.book.proofs.allowed.tier_outside.Statement.{statement}
 use Rattle.book.proofs.allowed.tier_outside.Tie as tie

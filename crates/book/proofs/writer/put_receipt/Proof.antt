@@ -1,3 +1,4 @@
+-- Each put keeps the length, and the fields put one after the other are the bytes of the entry.
 use borrow.Author.Needs.{needs}
 use mathlib.Core.List.{[], _∷_}
 use mathlib.Core.Path.{sym, _∙_}
@@ -14,23 +15,27 @@ put-requires : tie.Need-put-requires
 put-requires c κs = omega (arith, c .before .before .before .put-head .kept .0)
 
 put-requires-2 : tie.Need-put-requires-2
-put-requires-2 c κs = omega (arith, c .before .before .before .put .kept .0, c .before .before .before .before .before .before .before .put-head .kept .0)
+put-requires-2 c κs =
+    let p1 = c .before .before .before in
+    let h = p1 .before .before .before .before in
+    omega (arith, p1 .put .kept .0, h .put-head .kept .0)
 
 same-length : tie.Need-same-length
 same-length c =
-    c .before .before .put2 .kept .0
-    ∙ c .before .before .before .before .before .before .put .kept .0
-    ∙ c .before .before .before .before .before .before .before .before .before .before .put-head .kept .0
+    let p2 = c .before .before in
+    let p1 = p2 .before .before .before .before in
+    let h = p1 .before .before .before .before in
+    p2 .put2 .kept .0 ∙ p1 .put .kept .0 ∙ h .put-head .kept .0
 
 returns : tie.Need-returns
 unfolding bytesOf
 returns c =
-    let a = c .before .before .before .before .before .before .before .before .before .before .before .before .before .args in
-    c .before .before .put2 .ensures
-    ∙ rw (
-      c .before .before .before .before .before .before .put .ensures,
-      c .before .before .before .before .before .before .before .before .before .before .put-head .ensures,
-    )
+    let p2 = c .before .before in
+    let p1 = p2 .before .before .before .before in
+    let h = p1 .before .before .before .before in
+    let a = h .before .before .before .args in
+    p2 .put2 .ensures
+    ∙ rw (p1 .put .ensures, h .put-head .ensures)
     (sym (put-fields (layout 5) (a .period ∷ a .participant ∷ a .cents ∷ []) _ 1))
 
 pub put-receipt-spec : {M : Type 1} → statement M
