@@ -1,0 +1,4 @@
+pub mod CheckLaws
+pub mod FieldLaws
+pub mod EntryLaws
+pub mod RoundTrips

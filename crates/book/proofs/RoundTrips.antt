@@ -1,0 +1,108 @@
+-- Reading and writing undo each other, by the laws of fields and of layouts.
+use mathlib.Core.Path.{_≡_, refl, ap}
+use mathlib.Core.Bool.{Bool, true, false, cond, not}
+use mathlib.Core.List.{List, [], _∷_, _++_, append-assoc}
+use Prim.Native.Nat.{ℕ, suc, _+_, _-_, _≤_, _<_}
+use native.Mathlib.Numerals.{add-one}
+use native.Mathlib.Omega.{arith}
+use borrow.Author.Tests.{lt-leb, le-ltb, eqb-true, ltb-false}
+use lib.Dec.{eqb, ltb, leb}
+use lib.ListN.{getD, length, take, drop, length-append}
+use lib.Seq.{drop-at, getD-at, drop-drop, drop-cons}
+use Rattle.book.specs.Checks.{Check, refusal}
+use Rattle.book.specs.Fields.{fieldBytes}
+use Rattle.book.specs.Entries.{bodyLength, unknown, layout, kindOf, fieldsOf, bytesOf, size}
+use Rattle.book.specs.Allowed.{allowed}
+use Rattle.book.specs.Codec.{ReadOutcome, kindAt, nextPlace, entryAt, readChecks, reading}
+use Rattle.book.specs.RoundTrips.{WrittenThenRead, ReadThenWritten}
+use Rattle.book.specs.declared.entries.Entry.{Entry}
+use Rattle.book.proofs.CheckLaws.{passes}
+use Rattle.book.proofs.FieldLaws.{Fit, total, fields-drop, fields-bytes, bytes-fields}
+use Rattle.book.proofs.EntryLaws.{kind-known, entry-again, kind-again, fields-again, layout-total, fields-fit, bytes-size}
+
+-- an entry written between other bytes
+module _ (e : Entry) (before after : List ℕ) where
+  abbrev whole : List ℕ
+  whole = before ++ bytesOf e ++ after
+
+  abbrev place : ℕ
+  place = length before
+
+  abbrev body : List ℕ
+  body = fieldBytes (layout (kindOf e)) (fieldsOf e) ++ after
+
+  whole-parts : whole ≡ before ++ (kindOf e ∷ body)
+  unfolding bytesOf
+  whole-parts = append-assoc before (bytesOf e) after
+
+  kind-there : kindAt whole place ≡ kindOf e
+  kind-there = rw whole-parts (getD-at before (kindOf e) body 0 place refl)
+
+  body-there : drop (place + 1) whole ≡ body
+  body-there = rw (whole-parts, ← drop-drop, drop-at before (kindOf e ∷ body) place refl)
+
+  next-there : nextPlace whole place ≡ place + size e
+  next-there = rw kind-there (omega arith)
+
+  length-there : length whole ≡ place + size e + length after
+  length-there = omega (arith, length-append (before ++ bytesOf e) after, length-append before (bytesOf e), bytes-size e)
+
+  entry-there : Fit (layout (kindOf e)) (fieldsOf e) → entryAt whole place ≡ e
+  unfolding entryAt
+  entry-there f =
+      rw (kind-there, fields-drop (layout (kindOf e)) whole (place + 1), body-there, fields-bytes (layout (kindOf e)) (fieldsOf e) after f) (entry-again e)
+
+pub written-then-read : WrittenThenRead
+unfolding reading
+written-then-read e before after a p =
+    let s : List ℕ = before ++ bytesOf e ++ after in
+    let at : ℕ = length before in
+    let same : entryAt s at ≡ e = entry-there e before after (fields-fit e a p) in
+    let next : nextPlace s at ≡ at + size e = next-there e before after in
+    let some : leb (length s) at ≡ false = lt-leb (length s) at (omega (arith, length-there e before after)) in
+    let known : unknown (kindAt s at) ≡ false = rw (kind-there e before after) (kind-known e) in
+    let room : ltb (length s) (nextPlace s at) ≡ false = le-ltb (length s) (nextPlace s at) (omega (arith, length-there e before after)) in
+    let fits : not (allowed (entryAt s at)) ≡ false = rw (same, a) in
+    let passed : refusal (readChecks s at) ≡ 0 = rw (some, known, room, fits) in
+    rw (passed, next, same)
+
+-- what holds where an entry was read
+module _ (s : List ℕ) (place : ℕ) where
+  accepted : (next : ℕ) (e : Entry) → reading s place ≡ record { answer = 0; place = next; entry = e ∷ [] }
+      → (refusal (readChecks s place) ≡ 0) × (nextPlace s place ≡ next) × (entryAt s place ≡ e)
+  unfolding reading
+  accepted next e h = go (eqb (refusal (readChecks s place)) 0) refl h
+    where
+      go : (t : Bool) → eqb (refusal (readChecks s place)) 0 ≡ t
+          → _≡_ {A = ReadOutcome}
+          (cond t (record { answer = 0; place = nextPlace s place; entry = entryAt s place ∷ [] }) (record { answer = refusal (readChecks s place); place = place; entry = [] }))
+          (record { answer = 0; place = next; entry = e ∷ [] })
+          → (refusal (readChecks s place) ≡ 0) × (nextPlace s place ≡ next) × (entryAt s place ≡ e)
+      go true q k = (eqb-true _ _ q, ap (λ (r : ReadOutcome). r .place) k, ap (λ (r : ReadOutcome). getD (r .entry) 0 e) k)
+      go false q k = absurd (omega (arith, ap (λ (r : ReadOutcome). length (r .entry)) k))
+
+  bytes-again : ((i : ℕ) → getD s i 0 < 256) → unknown (kindAt s place) ≡ false → nextPlace s place ≤ length s
+      → bytesOf (entryAt s place) ≡ take (nextPlace s place - place) (drop place s)
+  unfolding bytesOf entryAt
+  bytes-again small known room =
+      let kind : ℕ = kindAt s place in
+      let n : total (layout kind) ≡ bodyLength kind = layout-total kind known in
+      let m : nextPlace s place - place ≡ suc (bodyLength kind) = omega arith in
+      rw (
+        kind-again s (place + 1) kind known,
+        fields-again s (place + 1) kind known,
+        bytes-fields (layout kind) s (place + 1) small (omega arith),
+        n,
+        m,
+        add-one place,
+        drop-cons s place 0 (omega arith),
+      )
+
+pub read-then-written : ReadThenWritten
+read-then-written s place next e small h =
+    let checks : List Check = readChecks s place in
+    let r = accepted s place next e h in
+    let some = passes (leb (length s) place) 0 (drop 1 checks) (r .0) in
+    let known = passes (unknown (kindAt s place)) 1 (drop 2 checks) (some .1) in
+    let room = passes (ltb (length s) (nextPlace s place)) 0 (drop 3 checks) (known .1) in
+    rw (r .1, r .2) at (bytes-again s place small (known .0) (ltb-false _ _ (room .0)))

@@ -1,0 +1,66 @@
+use native.Mathlib.Omega.{arith}
+use mathlib.Core.Path.{_≡_, ap}
+use Rattle.book.specs.Fields.{fieldsAt}
+use Rattle.book.specs.Entries.{entryOf}
+use Rattle.book.specs.declared.entries.Entry.the-variants.{Open, Notice, Settle}
+use Rattle.book.proofs.reader.body_at.Statement.{statement}
+use Rattle.book.proofs.reader.body_at.Tie as tie
+
+last : (c : tie.At-match-rest) → c .before .before .args .kind ≡ 6
+last c = omega arith
+
+word-at-requires : tie.Need-word-at-requires
+word-at-requires c κs = rw (c .match .keys1) at (c .before .before .pre .2)
+
+energy-at-requires : tie.Need-energy-at-requires
+energy-at-requires c κs = rw (c .match .keys2) at (c .before .before .pre .2)
+
+amount-at-requires : tie.Need-amount-at-requires
+amount-at-requires c κs = rw (c .match .keys3) at (c .before .before .pre .2)
+
+word-at-requires-2 : tie.Need-word-at-requires-2
+word-at-requires-2 c κs = rw (c .match .keys4) at (c .before .before .pre .2)
+
+receipt-at-requires : tie.Need-receipt-at-requires
+receipt-at-requires c κs = rw (c .match .keys5) at (c .before .before .pre .2)
+
+word-at-requires-3 : tie.Need-word-at-requires-3
+word-at-requires-3 c κs = rw (last c) at (c .before .before .pre .2)
+
+returns : tie.Need-returns
+unfolding entryOf fieldsAt
+returns c = rw (c .before .match .keys1) (ap Open (c .word-at .ensures))
+
+returns-2 : tie.Need-returns-2
+returns-2 c = rw (c .before .match .keys2) (c .energy-at .ensures)
+
+returns-3 : tie.Need-returns-3
+returns-3 c = rw (c .before .match .keys3) (c .amount-at .ensures)
+
+returns-4 : tie.Need-returns-4
+unfolding entryOf fieldsAt
+returns-4 c = rw (c .before .match .keys4) (ap Notice (c .word-at2 .ensures))
+
+returns-5 : tie.Need-returns-5
+returns-5 c = rw (c .before .match .keys5) (c .receipt-at .ensures)
+
+returns-6 : tie.Need-returns-6
+unfolding entryOf fieldsAt
+returns-6 c = rw (last (c .before)) (ap Settle (c .word-at3 .ensures))
+
+pub body-at-spec : {M : Type 1} → statement M
+body-at-spec =
+    tie.close
+    (tie.spec
+    word-at-requires
+    energy-at-requires
+    amount-at-requires
+    word-at-requires-2
+    receipt-at-requires
+    word-at-requires-3
+    returns
+    returns-2
+    returns-3
+    returns-4
+    returns-5
+    returns-6)

@@ -1,0 +1,29 @@
+use borrow.Author.Needs.{needs}
+use Rattle.book.specs.Fields.{fieldsAt}
+use Rattle.book.specs.Entries.{entryOf}
+use Rattle.book.proofs.reader.receipt_at.Statement.{statement}
+use Rattle.book.proofs.reader.receipt_at.Tie as tie
+
+add-participant : tie.Need-add-participant
+add-participant c = search needs
+
+add-cents : tie.Need-add-cents
+add-cents c = search needs
+
+word-at-requires : tie.Need-word-at-requires
+word-at-requires c κs = search needs
+
+byte-at-requires : tie.Need-byte-at-requires
+byte-at-requires c κs = search needs
+
+long-at-requires : tie.Need-long-at-requires
+long-at-requires c κs = search needs
+
+returns : tie.Need-returns
+unfolding entryOf fieldsAt
+returns c = search needs
+
+pub receipt-at-spec : {M : Type 1} → statement M
+receipt-at-spec =
+    tie.close
+    (tie.spec add-participant add-cents word-at-requires byte-at-requires long-at-requires returns)

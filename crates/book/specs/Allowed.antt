@@ -1,0 +1,36 @@
+-- The values that fields may have (01, Entries), for reader, writer and book.
+use Prim.Native.Nat.{ℕ}
+use mathlib.Core.Bool.{Bool, true, false, cond, not}
+use mathlib.Core.List.{List, [], _∷_}
+use lib.Dec.{eqb, ltb, leb}
+use Rattle.exact.specs.Rows.{places}
+use Rattle.exact.specs.Energy.{quantityLimit, priceLimit}
+use Rattle.settlement.specs.Month.{tiers}
+use Rattle.book.specs.declared.entries.Entry.{Entry}
+use Rattle.book.specs.declared.entries.Entry.the-variants.{Open, Energy, Amount, Notice, Receipt, Settle}
+
+-- the most cents of an amount or a receipt
+abbrev pub centsLimit : ℕ
+centsLimit = 10_000_000_000_000
+
+-- tier is 0 with side 0, and 1 to 5 with side 1
+abbrev pub tierOutside : ℕ → ℕ → Bool
+tierOutside side tier = cond (eqb side 0) (not (eqb tier 0)) (cond (eqb tier 0) true (ltb tiers tier))
+
+-- the tests that a field is outside its values; a period has no others
+abbrev pub outside : Entry → List Bool
+outside (Open period) = []
+outside (Energy period participant side quantity price) =
+    leb places participant ∷ ltb 1 side ∷ ltb quantityLimit quantity ∷ ltb priceLimit price ∷ []
+outside (Amount period participant side tier cents) =
+    leb places participant ∷ ltb 1 side ∷ tierOutside side tier ∷ eqb cents 0 ∷ ltb centsLimit cents ∷ []
+outside (Notice period) = []
+outside (Receipt period participant cents) = leb places participant ∷ eqb cents 0 ∷ ltb centsLimit cents ∷ []
+outside (Settle period) = []
+
+abbrev pub none : List Bool → Bool
+none [] = true
+none (t ∷ l) = cond t false (none l)
+
+abbrev pub allowed : Entry → Bool
+allowed e = none (outside e)

@@ -1,0 +1,70 @@
+// Entries by kind, with the fields of 01 at their widths.
+ghost use mathlib.Core.Path.{_≡_};
+ghost use Rattle.book.specs.Entries.{kindOf};
+
+pub enum Entry {
+    Open {
+        period: u32,
+    },
+    Energy {
+        period: u32,
+        participant: u8,
+        side: u8,
+        quantity: u32,
+        price: u32,
+    },
+    Amount {
+        period: u32,
+        participant: u8,
+        side: u8,
+        tier: u8,
+        cents: u64,
+    },
+    Notice {
+        period: u32,
+    },
+    Receipt {
+        period: u32,
+        participant: u8,
+        cents: u64,
+    },
+    Settle {
+        period: u32,
+    },
+}
+
+// As many kinds as the list below has; there is no kind 0.
+pub const KINDS: usize = 7;
+
+// The length of a body, by kind.
+pub const BODY_LENGTHS: [usize; KINDS] = [0, 4, 14, 15, 4, 13, 4];
+
+// The number of an entry's kind.
+pub fn kind_of(e: Entry) -> usize
+    ensures { λ r. ⌜ r ≡ kindOf e ⌝ }
+{
+    match e {
+        Entry::Open { period: _ } => 1,
+        Entry::Energy {
+            period: _,
+            participant: _,
+            side: _,
+            quantity: _,
+            price: _,
+        } => 2,
+        Entry::Amount {
+            period: _,
+            participant: _,
+            side: _,
+            tier: _,
+            cents: _,
+        } => 3,
+        Entry::Notice { period: _ } => 4,
+        Entry::Receipt {
+            period: _,
+            participant: _,
+            cents: _,
+        } => 5,
+        Entry::Settle { period: _ } => 6,
+    }
+}

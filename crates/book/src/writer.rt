@@ -1,0 +1,109 @@
+// Entries written into lent bytes.
+use crate::allowed::is_allowed;
+use crate::entries::BODY_LENGTHS;
+use crate::entries::Entry;
+use crate::entries::kind_of;
+use crate::fields::put;
+ghost use mathlib.Core.Path.{_≡_};
+ghost use Prim.Native.Nat.{_≤_};
+ghost use lib.ListN.{length};
+ghost use lib.Seq.{sets};
+ghost use mathlib.Core.List.{_∷_};
+ghost use Rattle.book.specs.Fields.{bytes};
+ghost use Rattle.book.specs.Entries.{bytesOf, size};
+ghost use Rattle.book.specs.Codec.{writing, written, writeOutcome};
+ghost use Rattle.book.specs.declared.entries.Entry.the-variants.{Energy, Amount, Receipt};
+
+// How many bytes were written, or why none was.
+pub enum Writing {
+    Wrote(usize),
+    BadField,
+    NoRoom,
+}
+
+// The kind and the period, which every entry begins with.
+fn put_head(out: &mut [u8], kind: u8, period: u32)
+    requires { ⌜ 5 ≤ length (now out) ⌝ }
+    ensures { λ _. ⌜ now (out .exit) ≡ sets (now (out .entry)) 0 (kind ∷ bytes 4 period) ⌝ }
+{
+    out[0] = kind;
+    put(out, 1, 4, period as u64);
+}
+
+fn put_energy(out: &mut [u8], period: u32, participant: u8, side: u8, quantity: u32, price: u32)
+    requires { ⌜ 15 ≤ length (now out) ⌝ }
+    ensures { λ _. ⌜ now (out .exit) ≡ sets (now (out .entry)) 0 (bytesOf (Energy period participant side quantity price)) ⌝ }
+{
+    put_head(out, 2, period);
+    put(out, 5, 1, participant as u64);
+    put(out, 6, 1, side as u64);
+    put(out, 7, 4, quantity as u64);
+    put(out, 11, 4, price as u64);
+}
+
+fn put_amount(out: &mut [u8], period: u32, participant: u8, side: u8, tier: u8, cents: u64)
+    requires { ⌜ 16 ≤ length (now out) ⌝ }
+    ensures { λ _. ⌜ now (out .exit) ≡ sets (now (out .entry)) 0 (bytesOf (Amount period participant side tier cents)) ⌝ }
+{
+    put_head(out, 3, period);
+    put(out, 5, 1, participant as u64);
+    put(out, 6, 1, side as u64);
+    put(out, 7, 1, tier as u64);
+    put(out, 8, 8, cents);
+}
+
+fn put_receipt(out: &mut [u8], period: u32, participant: u8, cents: u64)
+    requires { ⌜ 14 ≤ length (now out) ⌝ }
+    ensures { λ _. ⌜ now (out .exit) ≡ sets (now (out .entry)) 0 (bytesOf (Receipt period participant cents)) ⌝ }
+{
+    put_head(out, 5, period);
+    put(out, 5, 1, participant as u64);
+    put(out, 6, 8, cents);
+}
+
+// The bytes of an entry, for which there is room.
+fn put_entry(e: Entry, out: &mut [u8])
+    requires { ⌜ size e ≤ length (now out) ⌝ }
+    ensures { λ _. ⌜ now (out .exit) ≡ sets (now (out .entry)) 0 (bytesOf e) ⌝ }
+{
+    match e {
+        Entry::Open { period } => put_head(out, 1, period),
+        Entry::Energy {
+            period,
+            participant,
+            side,
+            quantity,
+            price,
+        } => put_energy(out, period, participant, side, quantity, price),
+        Entry::Amount {
+            period,
+            participant,
+            side,
+            tier,
+            cents,
+        } => put_amount(out, period, participant, side, tier, cents),
+        Entry::Notice { period } => put_head(out, 4, period),
+        Entry::Receipt {
+            period,
+            participant,
+            cents,
+        } => put_receipt(out, period, participant, cents),
+        Entry::Settle { period } => put_head(out, 6, period),
+    }
+}
+
+// Writes an entry of any field values into the lent bytes, from the first on.
+pub fn write_entry(e: Entry, out: &mut [u8]) -> Writing
+    ensures { λ r. ⌜ (writeOutcome r ≡ writing e (length (now (out .entry)))) × (now (out .exit) ≡ written e (now (out .entry))) ⌝ }
+{
+    if !is_allowed(e) {
+        return Writing::BadField;
+    }
+    let kind = kind_of(e);
+    let n = BODY_LENGTHS[kind] + 1;
+    if out.len() < n {
+        return Writing::NoRoom;
+    }
+    put_entry(e, out);
+    Writing::Wrote(n)
+}
