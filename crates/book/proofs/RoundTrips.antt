@@ -71,15 +71,14 @@ module _ (s : List ℕ) (place : ℕ) where
   accepted : (next : ℕ) (e : Entry) → reading s place ≡ record { answer = 0; place = next; entry = e ∷ [] }
       → (refusal (readChecks s place) ≡ 0) × (nextPlace s place ≡ next) × (entryAt s place ≡ e)
   unfolding reading
-  accepted next e h = go (eqb (refusal (readChecks s place)) 0) refl h
+  accepted next e h = go (eqb (refusal (readChecks s place)) 0) _ refl refl h
     where
-      go : (t : Bool) → eqb (refusal (readChecks s place)) 0 ≡ t
-          → _≡_ {A = ReadOutcome}
-          (cond t (record { answer = 0; place = nextPlace s place; entry = entryAt s place ∷ [] }) (record { answer = refusal (readChecks s place); place = place; entry = [] }))
-          (record { answer = 0; place = next; entry = e ∷ [] })
+      go : (t : Bool) (refused : ReadOutcome) → refused .entry ≡ [] → eqb (refusal (readChecks s place)) 0 ≡ t
+          → cond t (record { answer = 0; place = nextPlace s place; entry = entryAt s place ∷ [] }) refused
+          ≡ record { answer = 0; place = next; entry = e ∷ [] }
           → (refusal (readChecks s place) ≡ 0) × (nextPlace s place ≡ next) × (entryAt s place ≡ e)
-      go true q k = (eqb-true _ _ q, ap (λ (r : ReadOutcome). r .place) k, ap (λ (r : ReadOutcome). getD (r .entry) 0 e) k)
-      go false q k = absurd (omega (arith, ap (λ (r : ReadOutcome). length (r .entry)) k))
+      go true refused bare q k = (eqb-true _ _ q, ap (λ (r : ReadOutcome). r .place) k, ap (λ (r : ReadOutcome). getD (r .entry) 0 e) k)
+      go false refused bare q k = absurd (omega (arith, ap length bare, ap (λ (r : ReadOutcome). length (r .entry)) k))
 
   bytes-again : ((i : ℕ) → getD s i 0 < 256) → unknown (kindAt s place) ≡ false → nextPlace s place ≤ length s
       → bytesOf (entryAt s place) ≡ take (nextPlace s place - place) (drop place s)
