@@ -1,7 +1,7 @@
--- A list of checks that refuses nothing: every test failed to hold.
+-- Laws of lists of checks, and of tests of which none holds.
 use Prim.Native.Nat.{ℕ, suc}
 use mathlib.Core.Path.{_≡_, refl}
-use mathlib.Core.Bool.{Bool, true, false, cond, false≢true}
+use mathlib.Core.Bool.{Bool, true, false, cond}
 use mathlib.Core.List.{List, [], _∷_}
 use native.Mathlib.Omega.{arith}
 use borrow.Author.Tests.{lt-leb, le-leb, ltb-true, ltb-false}
@@ -21,13 +21,3 @@ within-last limit v = go (ltb limit v) refl
     go : (t : Bool) → ltb limit v ≡ t → leb v limit ≡ cond t false true
     go true e = lt-leb v limit (ltb-true limit v e)
     go false e = le-leb v limit (ltb-false limit v e)
-
--- tests of which none holds
-abbrev pub AllFalse : List Bool → Type 0
-AllFalse [] = Unit {0}
-AllFalse (t ∷ l) = (t ≡ false) × AllFalse l
-
-pub none-all : (l : List Bool) → none l ≡ true → AllFalse l
-none-all [] e = tt
-none-all (true ∷ l) e = absurd (false≢true e)
-none-all (false ∷ l) e = (refl, none-all l e)

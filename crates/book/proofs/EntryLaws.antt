@@ -1,39 +1,33 @@
 -- Laws of kinds, layouts and allowed values.
 use mathlib.Core.Path.{_≡_, refl, _∙_}
-use mathlib.Core.Bool.{Bool, true, false, cond, not, true≢false}
+use mathlib.Core.Bool.{Bool, true, false, cond, true≢false}
 use mathlib.Core.List.{List, _++_}
-use Prim.Native.Nat.{ℕ, zero, suc, _+_, _^_, _≤_, _<_}
+use Prim.Native.Nat.{ℕ, zero, suc, _+_, _≤_, _<_}
 use native.Mathlib.Nat.{zero-add, pos-of-ne-zero}
 use native.Mathlib.Omega.{arith}
-use borrow.Author.Tests.{ltb-false, leb-false, eqb-true, eqb-false}
-use lib.Dec.{eqb, ltb, leb}
+use borrow.Author.Tests.{leb-false, eqb-false}
+use lib.Dec.{eqb, leb}
 use lib.ListN.{length, drop}
 use lib.Seq.{sets, sets-eq}
-use Rattle.exact.specs.Rows.{places}
-use Rattle.exact.specs.Energy.{quantityLimit, priceLimit}
-use Rattle.settlement.specs.Month.{tiers}
 use Rattle.book.specs.Fields.{bytes, fieldsAt, fieldBytes}
-use Rattle.book.specs.Entries.{bodyLength, unknown, layout, kindOf, fieldsOf, entryOf, bytesOf, size}
-use Rattle.book.specs.Allowed.{allowed, outside, tierOutside, centsLimit}
-use Rattle.book.specs.RoundTrips.{periodOf}
+use Rattle.book.specs.Entries.{bodyLengths, bodyLength, unknown, layout, kindOf, fieldsOf, entryOf, bytesOf, size}
 use Rattle.book.specs.declared.entries.Entry.{Entry}
 use Rattle.book.specs.declared.entries.Entry.the-variants.{Open, Energy, Amount, Notice, Receipt, Settle}
-use Rattle.book.proofs.CheckLaws.{none-all}
-use Rattle.book.proofs.FieldLaws.{Fit, total}
+use Rattle.book.proofs.FieldLaws.{total}
 
-known : (kind : ℕ) → unknown kind ≡ false → (0 < kind) × (kind < 7)
+pub known : (kind : ℕ) → unknown kind ≡ false → (0 < kind) × (kind < length bodyLengths)
 known kind h = go (eqb kind 0) refl h
   where
-    go : (t : Bool) → eqb kind 0 ≡ t → cond t true (leb 7 kind) ≡ false → (0 < kind) × (kind < 7)
+    go : (t : Bool) → eqb kind 0 ≡ t → cond t true (leb (length bodyLengths) kind) ≡ false → (0 < kind) × (kind < length bodyLengths)
     go true e k = absurd (true≢false k)
-    go false e k = (pos-of-ne-zero (eqb-false kind 0 e), leb-false 7 kind k)
+    go false e k = (pos-of-ne-zero (eqb-false kind 0 e), leb-false (length bodyLengths) kind k)
 
 -- what holds of each kind that there is, holds of a known kind
 module _ (P : ℕ → Type 0) (p1 : P 1) (p2 : P 2) (p3 : P 3) (p4 : P 4) (p5 : P 5) (p6 : P 6) where
   pub each-kind : (kind : ℕ) → unknown kind ≡ false → P kind
   each-kind kind h = go kind (known kind h .0) (known kind h .1)
     where
-      go : (k : ℕ) → 0 < k → k < 7 → P k
+      go : (k : ℕ) → 0 < k → k < length bodyLengths → P k
       go zero a b = absurd (omega arith)
       go (suc zero) a b = p1
       go (suc (suc zero)) a b = p2
@@ -75,48 +69,14 @@ fields-again s place = each-kind (λ k. fieldsOf (entryOf k (fieldsAt (layout k)
 pub layout-total : (kind : ℕ) → unknown kind ≡ false → total (layout kind) ≡ bodyLength kind
 layout-total = each-kind (λ k. total (layout k) ≡ bodyLength k) refl refl refl refl refl refl
 
-pub kind-lt : (e : Entry) → kindOf e < 7
+pub kind-lt : (e : Entry) → kindOf e < length bodyLengths
 kind-lt e = known (kindOf e) (kind-known e) .1
 
-pub body-le : (kind : ℕ) → unknown kind ≡ false → bodyLength kind ≤ 15
-body-le = each-kind (λ k. bodyLength k ≤ 15) (omega arith) (omega arith) (omega arith) (omega arith) (omega arith) (omega arith)
+pub body-le : (kind : ℕ) → unknown kind ≡ false → bodyLength kind ≤ 255
+body-le = each-kind (λ k. bodyLength k ≤ 255) (omega arith) (omega arith) (omega arith) (omega arith) (omega arith) (omega arith)
 
-pub size-le : (e : Entry) → size e ≤ 16
+pub size-le : (e : Entry) → size e ≤ 256
 size-le e = omega (arith, body-le (kindOf e) (kind-known e))
-
-tier-le : (side tier : ℕ) → tierOutside side tier ≡ false → tier ≤ tiers
-tier-le side tier h = go (eqb side 0) (eqb tier 0) refl h
-  where
-    go : (t u : Bool) → eqb tier 0 ≡ u → cond t (not u) (cond u true (ltb tiers tier)) ≡ false → tier ≤ tiers
-    go true true e k = let z : tier ≡ 0 = eqb-true tier 0 e in omega arith
-    go true false e k = absurd (true≢false k)
-    go false true e k = absurd (true≢false k)
-    go false false e k = ltb-false tiers tier k
-
--- allowed fields fit their widths
-pub fields-fit : (e : Entry) → allowed e ≡ true → periodOf e < 2 ^ 32 → Fit (layout (kindOf e)) (fieldsOf e)
-fields-fit (Open period) a p = (p, tt)
-fields-fit (Energy period participant side quantity price) a p =
-    let f = none-all (outside (Energy period participant side quantity price)) a in
-    let i : participant < places = leb-false places participant (f .0) in
-    let d : side ≤ 1 = ltb-false 1 side (f .1 .0) in
-    let q : quantity ≤ quantityLimit = ltb-false quantityLimit quantity (f .1 .1 .0) in
-    let c : price ≤ priceLimit = ltb-false priceLimit price (f .1 .1 .1 .0) in
-    (p, (omega arith, (omega arith, (omega arith, (omega arith, tt)))))
-fields-fit (Amount period participant side tier cents) a p =
-    let f = none-all (outside (Amount period participant side tier cents)) a in
-    let i : participant < places = leb-false places participant (f .0) in
-    let d : side ≤ 1 = ltb-false 1 side (f .1 .0) in
-    let t : tier ≤ tiers = tier-le side tier (f .1 .1 .0) in
-    let c : cents ≤ centsLimit = ltb-false centsLimit cents (f .1 .1 .1 .1 .0) in
-    (p, (omega arith, (omega arith, (omega arith, (omega arith, tt)))))
-fields-fit (Notice period) a p = (p, tt)
-fields-fit (Receipt period participant cents) a p =
-    let f = none-all (outside (Receipt period participant cents)) a in
-    let i : participant < places = leb-false places participant (f .0) in
-    let c : cents ≤ centsLimit = ltb-false centsLimit cents (f .1 .1 .0) in
-    (p, (omega arith, (omega arith, tt)))
-fields-fit (Settle period) a p = (p, tt)
 
 pub bytes-size : (e : Entry) → length (bytesOf e) ≡ size e
 unfolding bytesOf fieldBytes bytes

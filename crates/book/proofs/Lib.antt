@@ -1,4 +1,5 @@
 pub mod CheckLaws
 pub mod FieldLaws
 pub mod EntryLaws
+pub mod Outcomes
 pub mod RoundTrips

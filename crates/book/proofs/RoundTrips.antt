@@ -1,24 +1,25 @@
 -- Reading and writing undo each other, by the laws of fields and of layouts.
-use mathlib.Core.Path.{_≡_, refl, ap}
+use mathlib.Core.Path.{_≡_, refl, ap, _∙_}
 use mathlib.Core.Bool.{Bool, true, false, cond, not}
 use mathlib.Core.List.{List, [], _∷_, _++_, append-assoc}
 use Prim.Native.Nat.{ℕ, suc, _+_, _-_, _≤_, _<_}
 use native.Mathlib.Numerals.{add-one}
 use native.Mathlib.Omega.{arith}
-use borrow.Author.Tests.{lt-leb, le-ltb, eqb-true, ltb-false}
+use borrow.Author.Tests.{lt-leb, le-ltb, eqb-true, eqb-false, ltb-false, not-false}
 use lib.Dec.{eqb, ltb, leb}
 use lib.ListN.{getD, length, take, drop, length-append}
-use lib.Seq.{drop-at, getD-at, drop-drop, drop-cons}
+use lib.Seq.{take-at, drop-at, getD-at, drop-drop, drop-cons}
 use Rattle.book.specs.Checks.{Check, refusal}
-use Rattle.book.specs.Fields.{fieldBytes}
+use Rattle.book.specs.Fields.{fieldBytes, Fit}
 use Rattle.book.specs.Entries.{bodyLength, unknown, layout, kindOf, fieldsOf, bytesOf, size}
 use Rattle.book.specs.Allowed.{allowed}
-use Rattle.book.specs.Codec.{ReadOutcome, kindAt, nextPlace, entryAt, readChecks, reading}
+use Rattle.book.specs.Reading.{ReadOutcome, kindAt, nextPlace, entryAt, readChecks, reading}
+use Rattle.book.specs.Writing.{WriteOutcome, writeChecks, writing, written}
 use Rattle.book.specs.RoundTrips.{WrittenThenRead, ReadThenWritten}
 use Rattle.book.specs.declared.entries.Entry.{Entry}
 use Rattle.book.proofs.CheckLaws.{passes}
-use Rattle.book.proofs.FieldLaws.{Fit, total, fields-drop, fields-bytes, bytes-fields}
-use Rattle.book.proofs.EntryLaws.{kind-known, entry-again, kind-again, fields-again, layout-total, fields-fit, bytes-size}
+use Rattle.book.proofs.FieldLaws.{total, fields-drop, fields-bytes, bytes-fields}
+use Rattle.book.proofs.EntryLaws.{kind-known, entry-again, kind-again, fields-again, layout-total, bytes-size}
 
 -- an entry written between other bytes
 module _ (e : Entry) (before after : List ℕ) where
@@ -52,12 +53,14 @@ module _ (e : Entry) (before after : List ℕ) where
   entry-there f =
       rw (kind-there, fields-drop (layout (kindOf e)) whole (place + 1), body-there, fields-bytes (layout (kindOf e)) (fieldsOf e) after f) (entry-again e)
 
-pub written-then-read : WrittenThenRead
+-- the bytes of an allowed entry are read as the entry
+bytes-read : (e : Entry) (before after : List ℕ) → allowed e ≡ true → Fit (layout (kindOf e)) (fieldsOf e)
+    → reading (before ++ bytesOf e ++ after) (length before) ≡ record { answer = 0; place = length before + size e; entry = e ∷ [] }
 unfolding reading
-written-then-read e before after a p =
+bytes-read e before after a f =
     let s : List ℕ = before ++ bytesOf e ++ after in
     let at : ℕ = length before in
-    let same : entryAt s at ≡ e = entry-there e before after (fields-fit e a p) in
+    let same : entryAt s at ≡ e = entry-there e before after f in
     let next : nextPlace s at ≡ at + size e = next-there e before after in
     let some : leb (length s) at ≡ false = lt-leb (length s) at (omega (arith, length-there e before after)) in
     let known : unknown (kindAt s at) ≡ false = rw (kind-there e before after) (kind-known e) in
@@ -65,6 +68,34 @@ written-then-read e before after a p =
     let fits : not (allowed (entryAt s at)) ≡ false = rw (same, a) in
     let passed : refusal (readChecks s at) ≡ 0 = rw (some, known, room, fits) in
     rw (passed, next, same)
+
+-- an entry that the writer takes is allowed, and its bytes stand in front of those that were lent
+module _ (e : Entry) (out : List ℕ) where
+  taken : (n : ℕ) → writing e (length out) ≡ record { answer = 0; count = n }
+      → (refusal (writeChecks e (length out)) ≡ 0) × (size e ≡ n)
+  unfolding writing
+  taken n h = go (eqb (refusal (writeChecks e (length out))) 0) refl h
+    where
+      go : (t : Bool) → eqb (refusal (writeChecks e (length out))) 0 ≡ t
+          → _≡_ {A = WriteOutcome}
+          (cond t (record { answer = 0; count = size e }) (record { answer = refusal (writeChecks e (length out)); count = 0 }))
+          (record { answer = 0; count = n })
+          → (refusal (writeChecks e (length out)) ≡ 0) × (size e ≡ n)
+      go true q k = (eqb-true _ _ q, ap (λ (r : WriteOutcome). r .count) k)
+      go false q k = absurd (eqb-false _ _ q (ap (λ (r : WriteOutcome). r .answer) k))
+
+  in-front : refusal (writeChecks e (length out)) ≡ 0 → written e out ≡ bytesOf e ++ drop (size e) out
+  unfolding written
+  in-front h = rw h
+
+  room-for : allowed e ≡ true → size e ≤ length out → refusal (writeChecks e (length out)) ≡ 0
+  room-for a h = rw (a, le-ltb (length out) (size e) h)
+
+pub written-then-read : WrittenThenRead
+written-then-read e out before after n f h =
+    let t = taken e out n h in
+    let a : allowed e ≡ true = not-false (allowed e) (passes (not (allowed e)) 2 (drop 1 (writeChecks e (length out))) (t .0) .0) in
+    rw (in-front e out (t .0), ← t .1, take-at (bytesOf e) (drop (size e) out) (size e) (bytes-size e)) (bytes-read e before after a f)
 
 -- what holds where an entry was read
 module _ (s : List ℕ) (place : ℕ) where
@@ -97,11 +128,21 @@ module _ (s : List ℕ) (place : ℕ) where
         drop-cons s place 0 (omega arith),
       )
 
+  size-there : unknown (kindAt s place) ≡ false → size (entryAt s place) ≡ nextPlace s place - place
+  unfolding entryAt
+  size-there known = rw (kind-again s (place + 1) (kindAt s place) known) (omega arith)
+
 pub read-then-written : ReadThenWritten
-read-then-written s place next e small h =
+unfolding writing
+read-then-written s out place next e small h room =
     let checks : List Check = readChecks s place in
     let r = accepted s place next e h in
     let some = passes (leb (length s) place) 0 (drop 1 checks) (r .0) in
     let known = passes (unknown (kindAt s place)) 1 (drop 2 checks) (some .1) in
-    let room = passes (ltb (length s) (nextPlace s place)) 0 (drop 3 checks) (known .1) in
-    rw (r .1, r .2) at (bytes-again s place small (known .0) (ltb-false _ _ (room .0)))
+    let whole = passes (ltb (length s) (nextPlace s place)) 0 (drop 3 checks) (known .1) in
+    let fits = passes (not (allowed (entryAt s place))) 2 [] (whole .1) in
+    let a : allowed e ≡ true = rw (r .2) at (not-false (allowed (entryAt s place)) (fits .0)) in
+    let n : size e ≡ next - place = rw (r .1, r .2) at (size-there s place (known .0)) in
+    let same = rw (r .1, r .2) at (bytes-again s place small (known .0) (ltb-false _ _ (whole .0))) in
+    let passed = room-for e out a (omega arith) in
+    (rw (passed, n), in-front e out passed ∙ rw (same, n))

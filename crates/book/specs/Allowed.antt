@@ -17,15 +17,19 @@ centsLimit = 10_000_000_000_000
 abbrev pub tierOutside : ℕ → ℕ → Bool
 tierOutside side tier = cond (eqb side 0) (not (eqb tier 0)) (cond (eqb tier 0) true (ltb tiers tier))
 
--- the tests that a field is outside its values; a period has no others
+-- cents are 1 to the limit
+abbrev pub centsOutside : ℕ → List Bool
+centsOutside cents = eqb cents 0 ∷ ltb centsLimit cents ∷ []
+
+-- the tests that a field is outside its values; any period is allowed
 abbrev pub outside : Entry → List Bool
 outside (Open period) = []
 outside (Energy period participant side quantity price) =
     leb places participant ∷ ltb 1 side ∷ ltb quantityLimit quantity ∷ ltb priceLimit price ∷ []
 outside (Amount period participant side tier cents) =
-    leb places participant ∷ ltb 1 side ∷ tierOutside side tier ∷ eqb cents 0 ∷ ltb centsLimit cents ∷ []
+    leb places participant ∷ ltb 1 side ∷ tierOutside side tier ∷ centsOutside cents
 outside (Notice period) = []
-outside (Receipt period participant cents) = leb places participant ∷ eqb cents 0 ∷ ltb centsLimit cents ∷ []
+outside (Receipt period participant cents) = leb places participant ∷ centsOutside cents
 outside (Settle period) = []
 
 abbrev pub none : List Bool → Bool

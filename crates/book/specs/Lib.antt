@@ -2,5 +2,6 @@ pub mod Checks
 pub mod Fields
 pub mod Entries
 pub mod Allowed
-pub mod Codec
+pub mod Reading
+pub mod Writing
 pub mod RoundTrips

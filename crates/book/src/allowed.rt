@@ -1,11 +1,20 @@
 // The values that fields may have, tested for reader, writer and book alike.
 use crate::entries::Entry;
+use exact::PLACES;
+use settlement::TIERS;
 ghost use mathlib.Core.Path.{_≡_};
-ghost use mathlib.Core.List.{_∷_, []};
-ghost use lib.Dec.{eqb, ltb, leb};
-ghost use Rattle.exact.specs.Rows.{places};
-ghost use Rattle.exact.specs.Energy.{quantityLimit, priceLimit};
-ghost use Rattle.book.specs.Allowed.{allowed, none, tierOutside, centsLimit};
+ghost use Rattle.book.specs.Allowed.{allowed, none, tierOutside, centsOutside};
+ghost use Rattle.book.specs.declared.entries.Entry.the-variants.{Energy, Amount, Receipt};
+
+const PARTICIPANTS: u8 = PLACES as u8;
+
+const LAST_TIER: u8 = TIERS as u8;
+
+const QUANTITY_LIMIT: u32 = 100_000_000;
+
+const PRICE_LIMIT: u32 = 10_000_000;
+
+const CENTS_LIMIT: u64 = 10_000_000_000_000;
 
 fn tier_outside(side: u8, tier: u8) -> bool
     ensures { λ r. ⌜ r ≡ tierOutside side tier ⌝ }
@@ -16,37 +25,37 @@ fn tier_outside(side: u8, tier: u8) -> bool
     if tier == 0 {
         return true;
     }
-    5 < tier
+    LAST_TIER < tier
 }
 
 fn energy_allowed(participant: u8, side: u8, quantity: u32, price: u32) -> bool
-    ensures { λ r. ⌜ r ≡ none (leb places participant ∷ ltb 1 side ∷ ltb quantityLimit quantity ∷ ltb priceLimit price ∷ []) ⌝ }
+    ensures { λ r. ⌜ r ≡ allowed (Energy 0 participant side quantity price) ⌝ }
 {
-    if 64 <= participant {
+    if PARTICIPANTS <= participant {
         return false;
     }
     if 1 < side {
         return false;
     }
-    if 100_000_000 < quantity {
+    if QUANTITY_LIMIT < quantity {
         return false;
     }
-    price <= 10_000_000
+    price <= PRICE_LIMIT
 }
 
 fn cents_allowed(cents: u64) -> bool
-    ensures { λ r. ⌜ r ≡ none (eqb cents 0 ∷ ltb centsLimit cents ∷ []) ⌝ }
+    ensures { λ r. ⌜ r ≡ none (centsOutside cents) ⌝ }
 {
     if cents == 0 {
         return false;
     }
-    cents <= 10_000_000_000_000
+    cents <= CENTS_LIMIT
 }
 
 fn amount_allowed(participant: u8, side: u8, tier: u8, cents: u64) -> bool
-    ensures { λ r. ⌜ r ≡ none (leb places participant ∷ ltb 1 side ∷ tierOutside side tier ∷ eqb cents 0 ∷ ltb centsLimit cents ∷ []) ⌝ }
+    ensures { λ r. ⌜ r ≡ allowed (Amount 0 participant side tier cents) ⌝ }
 {
-    if 64 <= participant {
+    if PARTICIPANTS <= participant {
         return false;
     }
     if 1 < side {
@@ -59,9 +68,9 @@ fn amount_allowed(participant: u8, side: u8, tier: u8, cents: u64) -> bool
 }
 
 fn receipt_allowed(participant: u8, cents: u64) -> bool
-    ensures { λ r. ⌜ r ≡ none (leb places participant ∷ eqb cents 0 ∷ ltb centsLimit cents ∷ []) ⌝ }
+    ensures { λ r. ⌜ r ≡ allowed (Receipt 0 participant cents) ⌝ }
 {
-    if 64 <= participant {
+    if PARTICIPANTS <= participant {
         return false;
     }
     cents_allowed(cents)

@@ -1,6 +1,6 @@
 // Entries by kind, with the fields of 01 at their widths.
 ghost use mathlib.Core.Path.{_≡_};
-ghost use Rattle.book.specs.Entries.{kindOf};
+ghost use Rattle.book.specs.Entries.{kindOf, unknown};
 
 pub enum Entry {
     Open {
@@ -33,7 +33,7 @@ pub enum Entry {
     },
 }
 
-// As many kinds as the list below has; there is no kind 0.
+// One more than the highest kind; there is no kind 0.
 pub const KINDS: usize = 7;
 
 // The length of a body, by kind.
@@ -67,4 +67,14 @@ pub fn kind_of(e: Entry) -> usize
         } => 5,
         Entry::Settle { period: _ } => 6,
     }
+}
+
+// Whether there is no such kind.
+pub fn is_unknown(kind: usize) -> bool
+    ensures { λ r. ⌜ r ≡ unknown kind ⌝ }
+{
+    if kind == 0 {
+        return true;
+    }
+    KINDS <= kind
 }

@@ -3,7 +3,7 @@ ghost use mathlib.Core.Path.{_≡_};
 ghost use Prim.Native.Nat.{_+_, _^_, _≤_, _<_};
 ghost use lib.ListN.{length};
 ghost use lib.Seq.{sets};
-ghost use Rattle.book.specs.Fields.{number, bytes};
+ghost use Rattle.book.specs.Fields.{valueAt, bytes};
 
 fn wide(x: u8) -> u64
     ensures { λ r. ⌜ (r ≡ x) × (r < 256) ⌝ }
@@ -14,7 +14,7 @@ fn wide(x: u8) -> u64
 // The number in k bytes from a place on.
 fn field(s: &[u8], place: usize, k: usize) -> u64
     requires { ⌜ (k ≤ 8) × (place + k ≤ length (now s)) ⌝ }
-    ensures { λ r. ⌜ (r ≡ number k (now (s .entry)) place) × (r < 256 ^ k) ⌝ }
+    ensures { λ r. ⌜ (r ≡ valueAt k (now (s .entry)) place) × (r < 256 ^ k) ⌝ }
 {
     let mut v = 0u64;
     let mut i = k;
@@ -28,7 +28,7 @@ fn field(s: &[u8], place: usize, k: usize) -> u64
 // A field of 1 byte.
 pub fn byte_at(s: &[u8], place: usize) -> u8
     requires { ⌜ place + 1 ≤ length (now s) ⌝ }
-    ensures { λ r. ⌜ r ≡ number 1 (now (s .entry)) place ⌝ }
+    ensures { λ r. ⌜ r ≡ valueAt 1 (now (s .entry)) place ⌝ }
 {
     field(s, place, 1) as u8
 }
@@ -36,7 +36,7 @@ pub fn byte_at(s: &[u8], place: usize) -> u8
 // A field of 4 bytes.
 pub fn word_at(s: &[u8], place: usize) -> u32
     requires { ⌜ place + 4 ≤ length (now s) ⌝ }
-    ensures { λ r. ⌜ r ≡ number 4 (now (s .entry)) place ⌝ }
+    ensures { λ r. ⌜ r ≡ valueAt 4 (now (s .entry)) place ⌝ }
 {
     field(s, place, 4) as u32
 }
@@ -44,7 +44,7 @@ pub fn word_at(s: &[u8], place: usize) -> u32
 // A field of 8 bytes.
 pub fn long_at(s: &[u8], place: usize) -> u64
     requires { ⌜ place + 8 ≤ length (now s) ⌝ }
-    ensures { λ r. ⌜ r ≡ number 8 (now (s .entry)) place ⌝ }
+    ensures { λ r. ⌜ r ≡ valueAt 8 (now (s .entry)) place ⌝ }
 {
     field(s, place, 8)
 }

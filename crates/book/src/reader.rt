@@ -2,7 +2,7 @@
 use crate::allowed::is_allowed;
 use crate::entries::BODY_LENGTHS;
 use crate::entries::Entry;
-use crate::entries::KINDS;
+use crate::entries::is_unknown;
 use crate::fields::byte_at;
 use crate::fields::long_at;
 use crate::fields::word_at;
@@ -10,8 +10,9 @@ ghost use mathlib.Core.Path.{_≡_};
 ghost use Prim.Native.Nat.{_+_, _≤_};
 ghost use lib.ListN.{length};
 ghost use Rattle.book.specs.Fields.{fieldsAt};
-ghost use Rattle.book.specs.Entries.{bodyLength, layout, entryOf};
-ghost use Rattle.book.specs.Codec.{reading, readOutcome};
+ghost use Rattle.book.specs.Entries.{bodyLength, unknown, layout, entryOf};
+ghost use mathlib.Core.Bool.{false};
+ghost use Rattle.book.specs.Reading.{reading, readOutcome};
 
 // What stands at a place: an entry, with the place after it, or nothing that can be read.
 pub enum Reading {
@@ -70,7 +71,7 @@ fn receipt_at(s: &[u8], body: usize) -> Entry
 
 // The entry of a known kind, of whose body no byte is missing.
 fn body_at(s: &[u8], kind: usize, body: usize) -> Entry
-    requires { ⌜ (1 ≤ kind) × (kind ≤ 6) × (body + bodyLength kind ≤ length (now s)) ⌝ }
+    requires { ⌜ (unknown kind ≡ false) × (body + bodyLength kind ≤ length (now s)) ⌝ }
     ensures { λ r. ⌜ r ≡ entryOf kind (fieldsAt (layout kind) (now (s .entry)) body) ⌝ }
 {
     match kind {
@@ -97,10 +98,7 @@ pub fn read_entry(s: &[u8], place: usize) -> Reading
         return Reading::Short;
     }
     let kind = s[place] as usize;
-    if kind == 0 {
-        return Reading::Unknown;
-    }
-    if KINDS <= kind {
+    if is_unknown(kind) {
         return Reading::Unknown;
     }
     let body = place + 1;

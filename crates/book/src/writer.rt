@@ -11,17 +11,17 @@ ghost use lib.Seq.{sets};
 ghost use mathlib.Core.List.{_∷_};
 ghost use Rattle.book.specs.Fields.{bytes};
 ghost use Rattle.book.specs.Entries.{bytesOf, size};
-ghost use Rattle.book.specs.Codec.{writing, written, writeOutcome};
+ghost use Rattle.book.specs.Writing.{writing, written, writeOutcome};
 ghost use Rattle.book.specs.declared.entries.Entry.the-variants.{Energy, Amount, Receipt};
 
 // How many bytes were written, or why none was.
 pub enum Writing {
     Wrote(usize),
-    BadField,
+    Outside,
     NoRoom,
 }
 
-// The kind and the period, which every entry begins with.
+// The kind and the period, which every kind so far begins with.
 fn put_head(out: &mut [u8], kind: u8, period: u32)
     requires { ⌜ 5 ≤ length (now out) ⌝ }
     ensures { λ _. ⌜ now (out .exit) ≡ sets (now (out .entry)) 0 (kind ∷ bytes 4 period) ⌝ }
@@ -97,7 +97,7 @@ pub fn write_entry(e: Entry, out: &mut [u8]) -> Writing
     ensures { λ r. ⌜ (writeOutcome r ≡ writing e (length (now (out .entry)))) × (now (out .exit) ≡ written e (now (out .entry))) ⌝ }
 {
     if !is_allowed(e) {
-        return Writing::BadField;
+        return Writing::Outside;
     }
     let kind = kind_of(e);
     let n = BODY_LENGTHS[kind] + 1;

@@ -5,13 +5,13 @@ use mathlib.Core.Path.{_≡_}
 use Prim.Native.Nat.{_+_, _-_, _^_, _≤_, _<_}
 use native.Mathlib.Nat.{pow-le-pow-right, le-refl, sub-self, add-zero, sub-zero}
 use denote.Ref.{now}
-use Rattle.book.specs.Fields.{number}
-use Rattle.book.proofs.FieldLaws.{number-none, number-step}
+use Rattle.book.specs.Fields.{valueAt}
+use Rattle.book.proofs.FieldLaws.{value-none, value-step}
 use Rattle.book.proofs.fields.field.Statement.{statement}
 use Rattle.book.proofs.fields.field.Tie as tie
 
 abbrev Inv-loop : tie.InvT-loop
-Inv-loop s place k v₀ i₀ v i = (i ≤ k) × (v ≡ number (k - i) s (place + i)) × (v < 256 ^ (k - i))
+Inv-loop s place k v₀ i₀ v i = (i ≤ k) × (v ≡ valueAt (k - i) s (place + i)) × (v < 256 ^ (k - i))
 
 abbrev μ-loop : tie.MeasureT-loop
 μ-loop s place k v₀ i₀ v i = i
@@ -21,7 +21,7 @@ small c h =
     omega (arith, pow-le-pow-right {n = 256} (omega arith) {i = c .before .before .args .k - c .loop .i} {j = 7} (omega arith))
 
 loop-holds : tie.Need-loop-holds Inv-loop μ-loop
-loop-holds c = (le-refl _, rw sub-self (number-none _ _), rw sub-self (omega arith))
+loop-holds c = (le-refl _, rw sub-self (value-none _ _), rw sub-self (omega arith))
 
 sub-i : tie.Need-sub-i Inv-loop μ-loop
 sub-i c = search needs
@@ -48,7 +48,7 @@ loop-again : tie.Need-loop-again Inv-loop μ-loop
 loop-again c =
     let l = c .before .before .before .loop in
     let a = c .before .before .before .before .before .args in
-    let n = number-step (now (a .s)) (a .place) (a .k) (l .i) (l .v) (c .wide .result) (c .before .before .loop-test .taken) (l .inv .0) (l .inv .1) (l .inv .2) (c .wide .ensures .0) (c .wide .ensures .1) in
+    let n = value-step (now (a .s)) (a .place) (a .k) (l .i) (l .v) (c .wide .result) (c .before .before .loop-test .taken) (l .inv .0) (l .inv .1) (l .inv .2) (c .wide .ensures .0) (c .wide .ensures .1) in
     (omega arith, n .0, n .1)
 
 returns : tie.Need-returns Inv-loop μ-loop

@@ -3,29 +3,30 @@ use mathlib.Core.Path.{_≡_, ap}
 use Rattle.book.specs.Fields.{fieldsAt}
 use Rattle.book.specs.Entries.{entryOf}
 use Rattle.book.specs.declared.entries.Entry.the-variants.{Open, Notice, Settle}
+use Rattle.book.proofs.EntryLaws.{known}
 use Rattle.book.proofs.reader.body_at.Statement.{statement}
 use Rattle.book.proofs.reader.body_at.Tie as tie
 
 last : (c : tie.At-match-rest) → c .before .before .args .kind ≡ 6
-last c = omega arith
+last c = omega (arith, known (c .before .before .args .kind) (c .before .before .pre .0))
 
 word-at-requires : tie.Need-word-at-requires
-word-at-requires c κs = rw (c .match .keys1) at (c .before .before .pre .2)
+word-at-requires c κs = rw (c .match .keys1) at (c .before .before .pre .1)
 
 energy-at-requires : tie.Need-energy-at-requires
-energy-at-requires c κs = rw (c .match .keys2) at (c .before .before .pre .2)
+energy-at-requires c κs = rw (c .match .keys2) at (c .before .before .pre .1)
 
 amount-at-requires : tie.Need-amount-at-requires
-amount-at-requires c κs = rw (c .match .keys3) at (c .before .before .pre .2)
+amount-at-requires c κs = rw (c .match .keys3) at (c .before .before .pre .1)
 
 word-at-requires-2 : tie.Need-word-at-requires-2
-word-at-requires-2 c κs = rw (c .match .keys4) at (c .before .before .pre .2)
+word-at-requires-2 c κs = rw (c .match .keys4) at (c .before .before .pre .1)
 
 receipt-at-requires : tie.Need-receipt-at-requires
-receipt-at-requires c κs = rw (c .match .keys5) at (c .before .before .pre .2)
+receipt-at-requires c κs = rw (c .match .keys5) at (c .before .before .pre .1)
 
 word-at-requires-3 : tie.Need-word-at-requires-3
-word-at-requires-3 c κs = rw (last c) at (c .before .before .pre .2)
+word-at-requires-3 c κs = rw (last c) at (c .before .before .pre .1)
 
 returns : tie.Need-returns
 unfolding entryOf fieldsAt

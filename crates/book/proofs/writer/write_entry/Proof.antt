@@ -9,7 +9,7 @@ use denote.Ref.{now}
 use lib.ListN.{length}
 use Rattle.book.specs.Entries.{bodyLength, bytesOf, size}
 use Rattle.book.specs.Allowed.{allowed}
-use Rattle.book.specs.Codec.{writing, written}
+use Rattle.book.specs.Writing.{writing, written}
 use Rattle.book.proofs.EntryLaws.{kind-lt, size-le, bytes-size, put-front}
 use Rattle.book.proofs.writer.write_entry.Statement.{statement}
 use Rattle.book.proofs.writer.write_entry.Tie as tie

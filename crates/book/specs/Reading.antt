@@ -1,18 +1,16 @@
--- Reading and writing entries: 01's answers, and what happens to the place and to the bytes (01, Refused, the feed).
+-- Reading entries: 01's answers, and what becomes of the place (01, Entries, and Refused, numbers 1 to 3).
 use Prim.Native.Nat.{ℕ, _+_}
 use mathlib.Core.Bool.{cond, not}
-use mathlib.Core.List.{List, [], _∷_, _++_}
+use mathlib.Core.List.{List, [], _∷_}
 use lib.Dec.{eqb, ltb, leb}
-use lib.ListN.{getD, length, drop}
+use lib.ListN.{getD, length}
 use Rattle.book.specs.Checks.{Check, on, refusal}
 use Rattle.book.specs.Fields.{fieldsAt}
-use Rattle.book.specs.Entries.{bodyLength, unknown, layout, entryOf, bytesOf, size}
+use Rattle.book.specs.Entries.{bodyLength, unknown, layout, entryOf}
 use Rattle.book.specs.Allowed.{allowed}
 use Rattle.book.specs.declared.entries.Entry.{Entry}
 use Rattle.book.specs.declared.reader.Reading.{Reading}
 use Rattle.book.specs.declared.reader.Reading.the-variants.{Found, Short, Unknown, Outside}
-use Rattle.book.specs.declared.writer.Writing.{Writing}
-use Rattle.book.specs.declared.writer.Writing.the-variants.{Wrote, BadField, NoRoom}
 
 -- what reading answers: 0 or a refusal's number, the place of the next entry, and the entry, if there is one
 pub record ReadOutcome : Type 0 where
@@ -52,28 +50,3 @@ readOutcome place (Found entry next) = record { answer = 0; place = next; entry 
 readOutcome place Short = record { answer = 1; place = place; entry = [] }
 readOutcome place Unknown = record { answer = 2; place = place; entry = [] }
 readOutcome place Outside = record { answer = 3; place = place; entry = [] }
-
--- what writing answers: 0 or a refusal's number, and how many bytes were written
-pub record WriteOutcome : Type 0 where
-  pub answer : ℕ
-  pub count : ℕ
-
--- 3 for a field outside its values, 5 for fewer bytes than the entry needs
-abbrev pub writeChecks : Entry → ℕ → List Check
-writeChecks e room = on (not (allowed e)) 3 ∷ on (ltb room (size e)) 5 ∷ []
-
-unfoldable pub writing : Entry → ℕ → WriteOutcome
-writing e room =
-    cond (eqb (refusal (writeChecks e room)) 0)
-    (record { answer = 0; count = size e })
-    (record { answer = refusal (writeChecks e room); count = 0 })
-
--- the lent bytes afterwards: the entry's from the first on, and no other changed
-unfoldable pub written : Entry → List ℕ → List ℕ
-written e out = cond (eqb (refusal (writeChecks e (length out))) 0) (bytesOf e ++ drop (size e) out) out
-
--- 01's number and values for each answer of the writer
-abbrev pub writeOutcome : Writing → WriteOutcome
-writeOutcome (Wrote count) = record { answer = 0; count = count }
-writeOutcome BadField = record { answer = 3; count = 0 }
-writeOutcome NoRoom = record { answer = 5; count = 0 }
