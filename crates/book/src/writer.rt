@@ -5,14 +5,14 @@ use crate::entries::Entry;
 use crate::entries::kind_of;
 use crate::fields::put;
 ghost use mathlib.Core.Path.{_≡_};
-ghost use Prim.Native.Nat.{_≤_};
+ghost use Prim.Native.Nat.{_+_, _≤_};
 ghost use lib.ListN.{length};
 ghost use lib.Seq.{sets};
-ghost use mathlib.Core.List.{_∷_};
-ghost use Rattle.book.specs.Fields.{bytes};
+ghost use mathlib.Core.List.{[], _∷_};
+ghost use Rattle.book.specs.Fields.{bytes, fieldBytes};
 ghost use Rattle.book.specs.Entries.{bytesOf, size};
 ghost use Rattle.book.specs.Writing.{writing, written, writeOutcome};
-ghost use Rattle.book.specs.declared.entries.Entry.the-variants.{Energy, Amount, Receipt};
+ghost use Rattle.book.specs.declared.entries.Entry.the-variants.{Receipt};
 
 // How many bytes were written, or why none was.
 pub enum Writing {
@@ -30,26 +30,30 @@ fn put_head(out: &mut [u8], kind: u8, period: u32)
     put(out, 1, 4, period as u64);
 }
 
-fn put_energy(out: &mut [u8], period: u32, participant: u8, side: u8, quantity: u32, price: u32)
-    requires { ⌜ 15 ≤ length (now out) ⌝ }
-    ensures { λ _. ⌜ now (out .exit) ≡ sets (now (out .entry)) 0 (bytesOf (Energy period participant side quantity price)) ⌝ }
-{
-    put_head(out, 2, period);
-    put(out, 5, 1, participant as u64);
-    put(out, 6, 1, side as u64);
-    put(out, 7, 4, quantity as u64);
-    put(out, 11, 4, price as u64);
+// A field: its width in bytes and its value.
+struct Field {
+    width: usize,
+    value: u64,
 }
 
-fn put_amount(out: &mut [u8], period: u32, participant: u8, side: u8, tier: u8, cents: u64)
-    requires { ⌜ 16 ≤ length (now out) ⌝ }
-    ensures { λ _. ⌜ now (out .exit) ≡ sets (now (out .entry)) 0 (bytesOf (Amount period participant side tier cents)) ⌝ }
+// The bytes of an entry with a side, whose last two fields have widths of their own.
+fn put_sided(
+    out: &mut [u8],
+    kind: u8,
+    period: u32,
+    participant: u8,
+    side: u8,
+    next: Field,
+    last: Field,
+)
+    requires { ⌜ 7 + next .width + last .width ≤ length (now out) ⌝ }
+    ensures { λ _. ⌜ now (out .exit) ≡ sets (now (out .entry)) 0 (kind ∷ fieldBytes (4 ∷ 1 ∷ 1 ∷ next .width ∷ last .width ∷ []) (period ∷ participant ∷ side ∷ next .value ∷ last .value ∷ [])) ⌝ }
 {
-    put_head(out, 3, period);
+    put_head(out, kind, period);
     put(out, 5, 1, participant as u64);
     put(out, 6, 1, side as u64);
-    put(out, 7, 1, tier as u64);
-    put(out, 8, 8, cents);
+    put(out, 7, next.width, next.value);
+    put(out, 7 + next.width, last.width, last.value);
 }
 
 fn put_receipt(out: &mut [u8], period: u32, participant: u8, cents: u64)
@@ -74,14 +78,42 @@ fn put_entry(e: Entry, out: &mut [u8])
             side,
             quantity,
             price,
-        } => put_energy(out, period, participant, side, quantity, price),
+        } => put_sided(
+            out,
+            2,
+            period,
+            participant,
+            side,
+            Field {
+                width: 4,
+                value: quantity as u64,
+            },
+            Field {
+                width: 4,
+                value: price as u64,
+            },
+        ),
         Entry::Amount {
             period,
             participant,
             side,
             tier,
             cents,
-        } => put_amount(out, period, participant, side, tier, cents),
+        } => put_sided(
+            out,
+            3,
+            period,
+            participant,
+            side,
+            Field {
+                width: 1,
+                value: tier as u64,
+            },
+            Field {
+                width: 8,
+                value: cents,
+            },
+        ),
         Entry::Notice { period } => put_head(out, 4, period),
         Entry::Receipt {
             period,

@@ -2,7 +2,6 @@
 use borrow.Author.Needs.{needs}
 use mathlib.Core.List.{[], _∷_}
 use mathlib.Core.Path.{sym, _∙_}
-use native.Mathlib.Omega.{arith}
 use Rattle.book.specs.Entries.{layout, bytesOf}
 use Rattle.book.proofs.FieldLaws.{put-fields}
 use Rattle.book.proofs.writer.put_receipt.Statement.{statement}
@@ -12,20 +11,13 @@ put-head-requires : tie.Need-put-head-requires
 put-head-requires c κs = search needs
 
 put-requires : tie.Need-put-requires
-put-requires c κs = omega (arith, c .before .before .before .put-head .kept .0)
+put-requires c κs = search needs
 
 put-requires-2 : tie.Need-put-requires-2
-put-requires-2 c κs =
-    let p1 = c .before .before .before in
-    let h = p1 .before .before .before .before in
-    omega (arith, p1 .put .kept .0, h .put-head .kept .0)
+put-requires-2 c κs = search needs
 
 same-length : tie.Need-same-length
-same-length c =
-    let p2 = c .before .before in
-    let p1 = p2 .before .before .before .before in
-    let h = p1 .before .before .before .before in
-    p2 .put2 .kept .0 ∙ p1 .put .kept .0 ∙ h .put-head .kept .0
+same-length c = search needs
 
 returns : tie.Need-returns
 unfolding bytesOf
