@@ -73,7 +73,7 @@ module _ (m : Month) (retained received : ℕ → ℕ) (sound : Retained m retai
 
   pub rounds-le : rounds m retained received ≤ m .n
   unfolding rounds spent
-  rounds-le = spread-rounds (m .n) (revised m retained received) (scaledAbove m retained received) (deficit m retained received) scaled-backed
+  rounds-le = omega (arith, spread-rounds (m .n) (revised m retained received) (scaledAbove m retained received) (deficit m retained received) scaled-backed)
 
   -- a month without arrears
   module _ (clear : sum (arrears m retained received) (m .n) ≡ 0) where
@@ -97,7 +97,7 @@ module _ (m : Month) (retained received : ℕ → ℕ) (sound : Retained m retai
 
     pub rounds-none : rounds m retained received ≡ 0
     unfolding rounds
-    rounds-none = ap (λ (s : Standing). s .rounds) spent-none
+    rounds-none = omega (arith, ap (λ (s : Standing). s .rounds) spent-none)
 
   -- equal sides, and nobody has paid more than is payable
   module _ (even : sum (m .by) (m .n) ≡ sum (owingTo m) (m .n)) (fair : (i : ℕ) → i < m .n → received i ≤ payable m retained i) where
