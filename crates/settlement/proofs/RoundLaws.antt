@@ -61,19 +61,6 @@ module _ (n : ℕ) (v : ℕ → ℕ) where
     unfolding round loss
     kept = sym (sum-add (round n v s .balance) (loss n v (s .balance) (s .deficit)) n) ∙ sum-cong (λ i. round n v s .balance i + loss n v (s .balance) (s .deficit) i) (s .balance) n (λ i _. omega arith)
 
-    weighted-le : weighted (weight v (s .balance)) (s .deficit) n weights-some ≤ n
-    weighted-le = omega (arith, sum-const 1 n, sum-mono (λ i. min (weight v (s .balance) i) 1) (λ i. 1) n (λ i _. omega arith))
-
-    -- all lose at most n - 1 above the deficit
-    pub lost-near : sum (loss n v (s .balance) (s .deficit)) n ≤ s .deficit + (n - 1)
-    unfolding loss
-    lost-near = omega (
-      arith,
-      weighted-le,
-      ceil-sum (weight v (s .balance)) (s .deficit) n weights-some,
-      sum-mono (loss n v (s .balance) (s .deficit)) shareOf n (λ i _. omega arith),
-    )
-
     share-spent : (i : ℕ) → s .balance i ≡ 0 → shareOf i ≡ 0
     unfolding weight
     share-spent i e =
@@ -86,6 +73,19 @@ module _ (n : ℕ) (v : ℕ → ℕ) where
     unfolding round loss
     whole i e =
         ⊎-elim (λ z. omega (arith, share-spent i z)) (λ (p : 0 < s .balance i). omega arith) (eq-zero-or-pos (s .balance i))
+
+    weighted-le : weighted (weight v (s .balance)) (s .deficit) n weights-some ≤ n
+    weighted-le = omega (arith, sum-const 1 n, sum-mono (λ i. min (weight v (s .balance) i) 1) (λ i. 1) n (λ i _. omega arith))
+
+    -- all lose at most n - 1 above the deficit
+    pub lost-near : sum (loss n v (s .balance) (s .deficit)) n ≤ s .deficit + (n - 1)
+    unfolding loss
+    lost-near = omega (
+      arith,
+      weighted-le,
+      ceil-sum (weight v (s .balance)) (s .deficit) n weights-some,
+      sum-mono (loss n v (s .balance) (s .deficit)) shareOf n (λ i _. omega arith),
+    )
 
     fewer : (i : ℕ) → i < n → positive (round n v s) i ≤ positive s i
     unfolding round

@@ -1,8 +1,10 @@
 -- The tests stand in the order of the definition.
-use mathlib.Core.Path.{_∙_}
+use mathlib.Core.Path.{sym, _∙_}
+use native.Mathlib.Nat.{pos-of-ne-zero}
 use native.Mathlib.Omega.{arith}
-use borrow.Author.Tests.{eq-eqb, ne-eqb, le-leb, lt-leb}
+use borrow.Author.Tests.{eq-eqb, ne-eqb, le-leb}
 use Rattle.settlement.specs.Notice.{gives}
+use Rattle.settlement.proofs.RetentionLaws.{gives-share}
 use Rattle.settlement.proofs.retention.gift.Statement.{statement}
 use Rattle.settlement.proofs.retention.gift.Tie as tie
 
@@ -22,10 +24,7 @@ proportion-up-requires : tie.Need-proportion-up-requires
 proportion-up-requires c κs = omega arith
 
 returns-4 : tie.Need-returns-4
-unfolding gives
-returns-4 c =
-    let b = c .before in
-    c .proportion-up .ensures ∙ simp (ne-eqb _ _ (b .before .before .if1 .left), ne-eqb _ _ (b .before .if2 .left), lt-leb _ _ (b .if3 .left))
+returns-4 c = c .proportion-up .ensures ∙ sym (gives-share _ _ _ (pos-of-ne-zero (c .before .before .if2 .left)) (c .before .if3 .left))
 
 pub gift-spec : {M : Type 1} → statement M
 gift-spec = tie.close (tie.spec returns returns-2 returns-3 proportion-up-requires returns-4)
