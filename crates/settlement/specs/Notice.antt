@@ -45,7 +45,7 @@ module _ (m : Month) (retained : ℕ → ℕ) where
 abbrev pub noticed : Month → Noticed
 noticed m = record { retention = cells (retention m) (m .n); payable = cells (payable m (retention m)) (m .n) }
 
--- the row that a notice handed on as payable
+-- a payable row that comes from some sound row of retention, as the one that a notice hands on does
 pub record Due (m : Month) (payables : List ℕ) : Type 0 where
   pub retained : ℕ → ℕ
   pub sound : Retained m retained
