@@ -12,7 +12,7 @@ ghost use mathlib.Core.List.{[], _∷_};
 ghost use Rattle.book.specs.Fields.{bytes, fieldBytes};
 ghost use Rattle.book.specs.Entries.{bytesOf, size};
 ghost use Rattle.book.specs.Writing.{writing, written, writeOutcome};
-ghost use Rattle.book.specs.declared.entries.Entry.the-variants.{Receipt};
+ghost use Rattle.book.specs.declared.entries.Entry.the-variants.{Energy, Amount, Receipt};
 
 // How many bytes were written, or why none was.
 pub enum Writing {
@@ -56,6 +56,36 @@ fn put_sided(
     put(out, 7 + next.width, last.width, last.value);
 }
 
+fn put_energy(out: &mut [u8], period: u32, participant: u8, side: u8, quantity: u32, price: u32)
+    requires { ⌜ 15 ≤ length (now out) ⌝ }
+    ensures { λ _. ⌜ now (out .exit) ≡ sets (now (out .entry)) 0 (bytesOf (Energy period participant side quantity price)) ⌝ }
+{
+    let next = Field {
+        width: 4,
+        value: quantity as u64,
+    };
+    let last = Field {
+        width: 4,
+        value: price as u64,
+    };
+    put_sided(out, 2, period, participant, side, next, last);
+}
+
+fn put_amount(out: &mut [u8], period: u32, participant: u8, side: u8, tier: u8, cents: u64)
+    requires { ⌜ 16 ≤ length (now out) ⌝ }
+    ensures { λ _. ⌜ now (out .exit) ≡ sets (now (out .entry)) 0 (bytesOf (Amount period participant side tier cents)) ⌝ }
+{
+    let next = Field {
+        width: 1,
+        value: tier as u64,
+    };
+    let last = Field {
+        width: 8,
+        value: cents,
+    };
+    put_sided(out, 3, period, participant, side, next, last);
+}
+
 fn put_receipt(out: &mut [u8], period: u32, participant: u8, cents: u64)
     requires { ⌜ 14 ≤ length (now out) ⌝ }
     ensures { λ _. ⌜ now (out .exit) ≡ sets (now (out .entry)) 0 (bytesOf (Receipt period participant cents)) ⌝ }
@@ -78,42 +108,14 @@ fn put_entry(e: Entry, out: &mut [u8])
             side,
             quantity,
             price,
-        } => put_sided(
-            out,
-            2,
-            period,
-            participant,
-            side,
-            Field {
-                width: 4,
-                value: quantity as u64,
-            },
-            Field {
-                width: 4,
-                value: price as u64,
-            },
-        ),
+        } => put_energy(out, period, participant, side, quantity, price),
         Entry::Amount {
             period,
             participant,
             side,
             tier,
             cents,
-        } => put_sided(
-            out,
-            3,
-            period,
-            participant,
-            side,
-            Field {
-                width: 1,
-                value: tier as u64,
-            },
-            Field {
-                width: 8,
-                value: cents,
-            },
-        ),
+        } => put_amount(out, period, participant, side, tier, cents),
         Entry::Notice { period } => put_head(out, 4, period),
         Entry::Receipt {
             period,

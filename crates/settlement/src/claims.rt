@@ -6,10 +6,9 @@ use exact::excesses;
 use exact::minima;
 use exact::sums;
 ghost use mathlib.Core.Path.{_≡_};
-ghost use Prim.Native.Nat.{ℕ};
-ghost use Rattle.exact.specs.Rows.{at, cells};
+ghost use Rattle.exact.specs.Rows.{at};
 ghost use Rattle.settlement.specs.Month.{month, Bounded};
-ghost use Rattle.settlement.specs.Notice.{Retained, Due, payable};
+ghost use Rattle.settlement.specs.Notice.{Due};
 ghost use Rattle.settlement.specs.Claims.{claimed};
 
 // What step 1 hands on.
@@ -23,7 +22,7 @@ pub struct Claimed {
 // no retention reckoned anew.
 pub fn claim(by: Row, to: TierCells, payables: Row, received: Row, n: usize) -> Claimed
     requires { ⌜ Bounded (month n by to) × Due (month n by to) payables ⌝ }
-    ensures { λ r. ⌜ ((retained : ℕ → ℕ) → Retained (month n by to) retained → payables ≡ cells (payable (month n by to) retained) n → r ≡ claimed (month n by to) retained (at received)) ⌝ }
+    ensures { λ r. ⌜ ((due : Due (month n by to) payables) → r ≡ claimed (month n by to) (due .retained) (at received)) ⌝ }
 {
     let owing = over_tiers(to, n);
     let owing_and_payable = sums(owing, payables, n);

@@ -8,10 +8,9 @@ use exact::excesses;
 use exact::sums;
 use exact::total;
 ghost use mathlib.Core.Path.{_≡_};
-ghost use Prim.Native.Nat.{ℕ};
-ghost use Rattle.exact.specs.Rows.{at, cells};
+ghost use Rattle.exact.specs.Rows.{at};
 ghost use Rattle.settlement.specs.Month.{month, Bounded};
-ghost use Rattle.settlement.specs.Notice.{Retained, Due, payable};
+ghost use Rattle.settlement.specs.Notice.{Due};
 ghost use Rattle.settlement.specs.Settling.{scaledAmounts};
 
 // What steps 1 to 3 hand on. Scaled amounts are in two rows: `above` where they are positive, `below`, with the sign turned, where they are negative.
@@ -26,7 +25,7 @@ pub struct Scaled {
 // The claims, revised amounts and scaled amounts of a month, from its sums, what is payable and what was received.
 pub fn scale(by: Row, to: TierCells, payables: Row, received: Row, n: usize) -> Scaled
     requires { ⌜ Bounded (month n by to) × Due (month n by to) payables ⌝ }
-    ensures { λ r. ⌜ ((retained : ℕ → ℕ) → Retained (month n by to) retained → payables ≡ cells (payable (month n by to) retained) n → r ≡ scaledAmounts (month n by to) retained (at received)) ⌝ }
+    ensures { λ r. ⌜ ((due : Due (month n by to) payables) → r ≡ scaledAmounts (month n by to) (due .retained) (at received)) ⌝ }
 {
     let c = claim(by, to, payables, received, n);
     let owing = c.owing;

@@ -5,10 +5,9 @@ use crate::spread::spread;
 use exact::Row;
 use exact::total;
 ghost use mathlib.Core.Path.{_≡_};
-ghost use Prim.Native.Nat.{ℕ};
-ghost use Rattle.exact.specs.Rows.{at, cells};
+ghost use Rattle.exact.specs.Rows.{at};
 ghost use Rattle.settlement.specs.Month.{month, Bounded};
-ghost use Rattle.settlement.specs.Notice.{Retained, Due, payable};
+ghost use Rattle.settlement.specs.Notice.{Due};
 ghost use Rattle.settlement.specs.Settling.{settled};
 
 // What a settlement hands on.
@@ -22,7 +21,7 @@ pub struct Settled {
 // The claims, arrears and cents paid of a month, and the rounds that ran.
 pub fn settle(by: Row, to: TierCells, payables: Row, received: Row, n: usize) -> Settled
     requires { ⌜ Bounded (month n by to) × Due (month n by to) payables ⌝ }
-    ensures { λ r. ⌜ ((retained : ℕ → ℕ) → Retained (month n by to) retained → payables ≡ cells (payable (month n by to) retained) n → r ≡ settled (month n by to) retained (at received)) ⌝ }
+    ensures { λ r. ⌜ ((due : Due (month n by to) payables) → r ≡ settled (month n by to) (due .retained) (at received)) ⌝ }
 {
     let s = scale(by, to, payables, received, n);
     let above = s.above;

@@ -1,4 +1,3 @@
--- Each arm puts the bytes of its kind.
 use borrow.Author.Needs.{needs}
 use Rattle.book.specs.Fields.{bytes, fieldBytes}
 use Rattle.book.specs.Entries.{bytesOf}
@@ -14,23 +13,14 @@ put-head-requires c κs = rw (c .before .before .e .given .1) at (c .before .bef
 enum-known-e-2 : tie.Need-enum-known-e-2
 enum-known-e-2 c = search needs
 
-cast-t25 : tie.Need-cast-t25
-cast-t25 c = search needs
-
-cast-t27 : tie.Need-cast-t27
-cast-t27 c = search needs
-
-put-sided-requires : tie.Need-put-sided-requires
-put-sided-requires c κs = rw (c .before .before .e2 .given .1) at (c .before .before .before .before .before .pre)
+put-energy-requires : tie.Need-put-energy-requires
+put-energy-requires c κs = rw (c .before .before .e2 .given .1) at (c .before .before .before .before .before .pre)
 
 enum-known-e-3 : tie.Need-enum-known-e-3
 enum-known-e-3 c = search needs
 
-cast-t32 : tie.Need-cast-t32
-cast-t32 c = search needs
-
-put-sided-requires-2 : tie.Need-put-sided-requires-2
-put-sided-requires-2 c κs = rw (c .before .before .e3 .given .1) at (c .before .before .before .before .before .pre)
+put-amount-requires : tie.Need-put-amount-requires
+put-amount-requires c κs = rw (c .before .before .e3 .given .1) at (c .before .before .before .before .before .pre)
 
 enum-known-e-4 : tie.Need-enum-known-e-4
 enum-known-e-4 c = search needs
@@ -61,15 +51,13 @@ same-length-2 : tie.Need-same-length-2
 same-length-2 c = search needs
 
 returns-2 : tie.Need-returns-2
-unfolding bytesOf
-returns-2 c = rw (c .before .before .before .before .before .e2 .given .1) (c .before .before .put-sided .ensures)
+returns-2 c = rw (c .before .before .before .before .before .e2 .given .1) (c .before .before .put-energy .ensures)
 
 same-length-3 : tie.Need-same-length-3
 same-length-3 c = search needs
 
 returns-3 : tie.Need-returns-3
-unfolding bytesOf
-returns-3 c = rw (c .before .before .before .before .before .e3 .given .1) (c .before .before .put-sided2 .ensures)
+returns-3 c = rw (c .before .before .before .before .before .e3 .given .1) (c .before .before .put-amount .ensures)
 
 same-length-4 : tie.Need-same-length-4
 same-length-4 c = search needs
@@ -98,12 +86,9 @@ put-entry-spec =
     enum-known-e
     put-head-requires
     enum-known-e-2
-    cast-t25
-    cast-t27
-    put-sided-requires
+    put-energy-requires
     enum-known-e-3
-    cast-t32
-    put-sided-requires-2
+    put-amount-requires
     enum-known-e-4
     put-head-requires-2
     enum-known-e-5

@@ -44,20 +44,21 @@ excesses-requires-4 c κs = c .before .before .before .before .before .before .p
 
 returns : tie.Need-returns
 unfolding fullClaim unpaid arrears claim
-returns c kept sound due =
+returns c d =
+    let kept = d .retained in
     let a = c .before .before .before .before .before .before in
     let x = a .before .args in
     let n = x .n in
     let m = month n (x .by) (x .to) in
     let r = at (x .received) in
     let owing = a .over-tiers .ensures in
-    let covered = c .before .before .before .before .before .sums .ensures ∙ cells-both _+_ (holds (owingTo m) n owing) (holds (payable m kept) n due) in
+    let covered = c .before .before .before .before .before .sums .ensures ∙ cells-both _+_ (holds (owingTo m) n owing) (holds (payable m kept) n (d .row)) in
     let full : c .before .before .before .before .excesses .result ≡ cells (fullClaim m kept) n =
     c .before .before .before .before .excesses .ensures ∙ cells-both _-_ (holds _ n covered) (holds-own (x .by) n) in
     let short : c .before .before .before .excesses2 .result ≡ cells (unpaid m kept r) n =
-    c .before .before .before .excesses2 .ensures ∙ cells-both _-_ (holds (payable m kept) n due) (holds-own (x .received) n) in
+    c .before .before .before .excesses2 .ensures ∙ cells-both _-_ (holds (payable m kept) n (d .row)) (holds-own (x .received) n) in
     let off : c .before .before .minima .result ≡ cells (setOff m kept r) n =
-    c .before .before .minima .ensures ∙ cells-both min (holds _ n short) (holds _ n full) ∙ cells-cong _ _ n (λ i _. sym (set-off-full m kept r sound i)) in
+    c .before .before .minima .ensures ∙ cells-both min (holds _ n short) (holds _ n full) ∙ cells-cong _ _ n (λ i _. sym (set-off-full m kept r (d .sound) i)) in
     let behind : c .before .excesses3 .result ≡ cells (arrears m kept r) n =
     c .before .excesses3 .ensures ∙ cells-both _-_ (holds _ n short) (holds _ n off) in
     let claims : c .excesses4 .result ≡ cells (claim m kept r) n =

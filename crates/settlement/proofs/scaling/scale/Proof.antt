@@ -6,8 +6,8 @@ use native.Mathlib.Omega.{arith}
 use Rattle.exact.specs.Rows.{at, cells}
 use Rattle.exact.proofs.RowLaws.{cells-both, holds, sum-holds}
 use Rattle.settlement.specs.Month.{Month, month, owingTo}
-use Rattle.settlement.specs.Notice.{Retained, payable}
-use Rattle.settlement.specs.Claims.{claim, arrears, claimed}
+use Rattle.settlement.specs.Notice.{Due}
+use Rattle.settlement.specs.Claims.{claim, arrears}
 use Rattle.settlement.specs.Settling.{available, revised, scaledAbove, scaledBelow}
 use Rattle.settlement.specs.declared.claims.Claimed.{Claimed}
 use Rattle.settlement.proofs.MonthLaws.{to-bound}
@@ -26,36 +26,31 @@ abbrev r : tie.After-claim → ℕ → ℕ
 r c = at (c .before .args .received)
 
 -- what step 1 handed on, by any retention that the payable row can have come from
-module _ (c : tie.After-claim) (kept : ℕ → ℕ) (sound : Retained (m c) kept) (due : c .before .args .payables ≡ cells (payable (m c) kept) (n c)) where
-  abbrev step1 : c .claim .result ≡ claimed (m c) kept (r c)
-  step1 = c .claim .ensures kept sound due
-
+module _ (c : tie.After-claim) (d : Due (m c) (c .before .args .payables)) where
   owing : c .claim .result .owing ≡ cells (owingTo (m c)) (n c)
-  owing = ap (λ (k : Claimed). k .owing) step1
+  owing = ap (λ (k : Claimed). k .owing) (c .claim .ensures d)
 
-  claims : c .claim .result .claims ≡ cells (claim (m c) kept (r c)) (n c)
-  claims = ap (λ (k : Claimed). k .claims) step1
+  claims : c .claim .result .claims ≡ cells (claim (m c) (d .retained) (r c)) (n c)
+  claims = ap (λ (k : Claimed). k .claims) (c .claim .ensures d)
 
-  behind : c .claim .result .arrears ≡ cells (arrears (m c) kept (r c)) (n c)
-  behind = ap (λ (k : Claimed). k .arrears) step1
+  behind : c .claim .result .arrears ≡ cells (arrears (m c) (d .retained) (r c)) (n c)
+  behind = ap (λ (k : Claimed). k .arrears) (c .claim .ensures d)
+
+abbrev start : tie.After-meet-tiers → tie.After-claim
+start c = c .before .before .before .before .before .before .before
 
 -- the available money, and the revised amounts
-module _ (c : tie.After-excess) where
-  abbrev a : tie.After-claim
-  a = c .before .before .before .before .before .before
+money : (c : tie.After-meet-tiers) (d : Due (m (start c)) (start c .before .args .payables))
+    → c .before .excess .result ≡ available (m (start c)) (d .retained) (r (start c))
+unfolding available
+money c d =
+    c .before .excess .ensures ∙ ap₂ _-_ (c .before .before .before .total .ensures ∙ sum-holds (holds _ _ (owing (start c) d)))
+    (c .before .before .total2 .ensures ∙ sum-holds (holds _ _ (behind (start c) d)))
 
-  money : (kept : ℕ → ℕ) (sound : Retained (m a) kept) → a .before .args .payables ≡ cells (payable (m a) kept) (n a)
-      → c .excess .result ≡ available (m a) kept (r a)
-  unfolding available
-  money kept sound due =
-      c .excess .ensures ∙ ap₂ _-_ (c .before .before .total .ensures ∙ sum-holds (holds _ _ (owing a kept sound due)))
-      (c .before .total2 .ensures ∙ sum-holds (holds _ _ (behind a kept sound due)))
-
-met-row : (c : tie.After-meet-tiers) (kept : ℕ → ℕ) (sound : Retained (m (a (c .before))) kept)
-    → a (c .before) .before .args .payables ≡ cells (payable (m (a (c .before))) kept) (n (a (c .before)))
-    → c .meet-tiers .result ≡ cells (revised (m (a (c .before))) kept (r (a (c .before)))) (n (a (c .before)))
+met-row : (c : tie.After-meet-tiers) (d : Due (m (start c)) (start c .before .args .payables))
+    → c .meet-tiers .result ≡ cells (revised (m (start c)) (d .retained) (r (start c))) (n (start c))
 unfolding revised
-met-row c kept sound due = rw (money (c .before) kept sound due) at (c .meet-tiers .ensures)
+met-row c d = rw (money c d) at (c .meet-tiers .ensures)
 
 claim-requires : tie.Need-claim-requires
 claim-requires c κs = search needs
@@ -64,14 +59,14 @@ total-requires : tie.Need-total-requires
 total-requires c κs =
     let s = c .before .before .before in
     let d = s .before .pre .1 in
-    (s .before .pre .0 .few, omega (arith, sum-holds (holds _ _ (owing s (d .retained) (d .sound) (d .row))), s .before .pre .0 .to-total))
+    (s .before .pre .0 .few, omega (arith, sum-holds (holds _ _ (owing s d)), s .before .pre .0 .to-total))
 
 total-requires-2 : tie.Need-total-requires-2
 total-requires-2 c κs =
     let s = c .before .before .before .before in
     let d = s .before .pre .1 in (
       s .before .pre .0 .few,
-      omega (arith, sum-holds (holds _ _ (behind s (d .retained) (d .sound) (d .row))), s .before .pre .0 .by-total, arrears-total-le (m s) (d .retained) (r s) (d .sound)),
+      omega (arith, sum-holds (holds _ _ (behind s d)), s .before .pre .0 .by-total, arrears-total-le (m s) (d .retained) (r s) (d .sound)),
     )
 
 excess-requires : tie.Need-excess-requires
@@ -84,14 +79,14 @@ meet-tiers-requires c κs =
 
 sums-requires : tie.Need-sums-requires
 sums-requires c κs =
-    let s = a (c .before) in
+    let s = start c in
     let pre = s .before .pre .0 in
     let d = s .before .pre .1 in (
       pre .few,
       λ i h. omega (
         arith,
-        holds _ _ (claims s (d .retained) (d .sound) (d .row)) .reads i h,
-        holds _ _ (met-row c (d .retained) (d .sound) (d .row)) .reads i h,
+        holds _ _ (claims s d) .reads i h,
+        holds _ _ (met-row c d) .reads i h,
         to-bound (m s) pre i h,
         claim-le (m s) (d .retained) (r s) (d .sound) i,
         revised-le (m s) (d .retained) (r s) (d .sound) i,
@@ -106,17 +101,18 @@ excesses-requires-2 c κs = search needs
 
 returns : tie.Need-returns
 unfolding scaledAbove scaledBelow
-returns c kept sound due =
+returns c d =
+    let kept = d .retained in
     let v = c .before .before .before in
-    let s = a (v .before) in
-    let row = met-row v kept sound due in
-    let both = c .before .before .sums .ensures ∙ cells-both _+_ (holds (claim (m s) kept (r s)) (n s) (claims s kept sound due)) (holds (revised (m s) kept (r s)) (n s) row) in
-    let o = holds (owingTo (m s)) (n s) (owing s kept sound due) in
+    let s = start v in
+    let row = met-row v d in
+    let both = c .before .before .sums .ensures ∙ cells-both _+_ (holds (claim (m s) kept (r s)) (n s) (claims s d)) (holds (revised (m s) kept (r s)) (n s) row) in
+    let o = holds (owingTo (m s)) (n s) (owing s d) in
     let above : c .before .excesses .result ≡ cells (scaledAbove (m s) kept (r s)) (n s) =
     c .before .excesses .ensures ∙ cells-both _-_ (holds _ (n s) both) o in
     let below : c .excesses2 .result ≡ cells (scaledBelow (m s) kept (r s)) (n s) =
     c .excesses2 .ensures ∙ cells-both _-_ o (holds _ (n s) both) in
-    λ z. record { claims = claims s kept sound due z; arrears = behind s kept sound due z; revised = row z; above = above z; below = below z }
+    λ z. record { claims = claims s d z; arrears = behind s d z; revised = row z; above = above z; below = below z }
 
 pub scale-spec : {M : Type 1} → statement M
 scale-spec =

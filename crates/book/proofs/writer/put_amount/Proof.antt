@@ -1,0 +1,17 @@
+use borrow.Author.Needs.{needs}
+use Rattle.book.specs.Entries.{bytesOf}
+use Rattle.book.proofs.writer.put_amount.Statement.{statement}
+use Rattle.book.proofs.writer.put_amount.Tie as tie
+
+put-sided-requires : tie.Need-put-sided-requires
+put-sided-requires c κs = search needs
+
+same-length : tie.Need-same-length
+same-length c = search needs
+
+returns : tie.Need-returns
+unfolding bytesOf
+returns c = search needs
+
+pub put-amount-spec : {M : Type 1} → statement M
+put-amount-spec = tie.close (tie.spec put-sided-requires same-length returns)
