@@ -8,7 +8,7 @@ use borrow.Author.Tests.{leb-true, leb-false, eqb-true, eqb-false}
 
 -- a fact P about a choice, from P of each of the two values
 module _ {A : Type 0} (P : A → Type 0) {x y : A} where
-  cases : (t : Bool) → (t ≡ true → P x) → (t ≡ false → P y) → P (cond t x y)
+  pub cases : (t : Bool) → (t ≡ true → P x) → (t ≡ false → P y) → P (cond t x y)
   cases true h k = h refl
   cases false h k = k refl
 
@@ -24,3 +24,10 @@ le-or-lt a b = go (leb a b) refl
     go : (t : Bool) → leb a b ≡ t → (a ≤ b) ⊎ (b < a)
     go true e = inl (leb-true a b e)
     go false e = inr (leb-false a b e)
+
+pub eq-or-ne : (a b : ℕ) → (a ≡ b) ⊎ (a ≡ b → ⊥)
+eq-or-ne a b = go (eqb a b) refl
+  where
+    go : (t : Bool) → eqb a b ≡ t → (a ≡ b) ⊎ (a ≡ b → ⊥)
+    go true e = inl (eqb-true a b e)
+    go false e = inr (eqb-false a b e)

@@ -1,13 +1,16 @@
 -- The laws of sums, of the largest, and of arrays that hold a row.
 use Prim.Native.Nat.{ℕ, zero, suc, _+_, _-_, _*_, _≤_, _<_, max}
 use mathlib.Core.Path.{_≡_, refl, sym, ap, ap₂, _∙_}
+use mathlib.Core.Bool.{cond}
 use mathlib.Core.Logic.{_⊎_, inl, inr, ⊎-elim}
 use mathlib.Core.List.{List, [], _∷_, _++_, append-assoc}
 use native.Mathlib.Omega.{arith}
 use native.Mathlib.Nat.{eq-or-lt-of-le, le-of-suc-le-suc, not-suc-le-zero, suc-inj, max-le}
 use native.Mathlib.Numerals.{add-one}
-use lib.ListN.{getD, drop, set, length, length-append, List·getD-append, replicate, getD-replicate}
+use lib.Dec.{eqb}
+use lib.ListN.{getD, drop, set, length, length-append, length-drop, List·getD-append, replicate, getD-replicate}
 use lib.Seq.{drop-cons, set-at, getD-at, set-getD}
+use Rattle.exact.proofs.Cases.{cases-eq}
 use Rattle.exact.specs.Rows.{places, at, sum, largest, table, filled, cells}
 
 module _ (f : ℕ → ℕ) where
@@ -92,6 +95,15 @@ sum-const c (suc n) = omega (arith, sum-const c n)
 pub sum-zero : (f : ℕ → ℕ) (n : ℕ) → ((i : ℕ) → i < n → f i ≡ 0) → sum f n ≡ 0
 sum-zero f n h = sum-cong f (λ i. 0) n h ∙ omega (arith, sum-const 0 n)
 
+-- a sum in which one term alone is not 0
+pub sum-single : (i c n : ℕ) → i < n → sum (λ j. cond (eqb i j) c 0) n ≡ c
+unfolding sum
+sum-single i c zero h = absurd (not-suc-le-zero h)
+sum-single i c (suc n) h =
+    cases-eq (λ z. sum (λ j. cond (eqb i j) c 0) n + z ≡ c) i n
+    (λ e. omega (arith, sum-zero (λ j. cond (eqb i j) c 0) n (λ j l. cases-eq (λ z. z ≡ 0) i j (λ q. absurd (omega arith)) (λ _. refl))))
+    (λ ne. omega (arith, sum-single i c n (omega arith)))
+
 -- sums over two indices in either order
 pub sum-swap : (f : ℕ → ℕ → ℕ) (n k : ℕ) → sum (λ i. sum (λ t. f t i) k) n ≡ sum (λ t. sum (f t) n) k
 unfolding sum
@@ -147,6 +159,10 @@ module _ {A : Type 0} (f : ℕ → A) where
       rw (add-one, drop-cons d n z h)
       (set-at (table f n) (getD d n z) (drop (suc n) d) (f n) n (table-length n) ∙ sym (append-assoc (table f n) (f n ∷ []) (drop (suc n) d)))
 
+  pub filled-length : (n : ℕ) (d : List A) → n ≤ length d → length (filled f n d) ≡ length d
+  unfolding filled
+  filled-length n d h = omega (arith, length-append (table f n) (drop n d), table-length n, length-drop n d)
+
   pub filled-at : (n i : ℕ) (d : List A) (z : A) → i < n → getD (filled f n d) i z ≡ f i
   unfolding filled
   filled-at n i d z h =
@@ -172,6 +188,10 @@ module _ (f : ℕ → ℕ) where
   pub cells-more : (n : ℕ) → n < places → set (cells f n) n (f n) ≡ cells f (n + 1)
   unfolding cells
   cells-more n h = filled-more f 0 n (replicate places 0) h
+
+  pub cells-length : (n : ℕ) → n ≤ places → length (cells f n) ≡ places
+  unfolding cells
+  cells-length n h = filled-length f n (replicate places 0) h
 
   pub cells-at : (n i : ℕ) → i < n → at (cells f n) i ≡ f i
   unfolding cells

@@ -23,6 +23,12 @@ pub fill-mono : (o : ℕ → ℕ) (x y t : ℕ) → x ≤ y → fill o x t ≤ f
 unfolding fill
 fill-mono o x y t h = omega arith
 
+-- a shortage looks at its owner's claim and payments alone
+pub shortage-cong : (to : ℕ → ℕ → ℕ) (claim paid claim′ paid′ : ℕ → ℕ) (t i : ℕ) → claim i ≡ claim′ i → paid i ≡ paid′ i
+    → shortage to claim paid t i ≡ shortage to claim′ paid′ t i
+unfolding shortage
+shortage-cong to claim paid claim′ paid′ t i c p = rw (c, p)
+
 module _ (to : ℕ → ℕ → ℕ) (claim paid : ℕ → ℕ) where
   abbrev short : ℕ → ℕ → ℕ
   short = shortage to claim paid

@@ -1,7 +1,7 @@
 -- The laws of a month: all that a crate above may use of its definitions.
 
--- retention is at most the tier 5 part, and that at most all that is owing to a participant
-pub use Rattle.settlement.proofs.MonthLaws.{tier5-le}
+-- where a tier stands in a flat array; retention is at most the tier 5 part, and that at most all that is owing
+pub use Rattle.settlement.proofs.MonthLaws.{tier-at, tier5-le}
 pub use Rattle.settlement.proofs.RetentionLaws.{retention-sound}
 -- payable amounts and full claims
 pub use Rattle.settlement.proofs.NoticeLaws.{full-max, full-balance, retained-le-full, full-le, payable-le, full-total}
@@ -12,4 +12,4 @@ pub use Rattle.settlement.proofs.SettleLaws.{available-exact, tierRest,
 pub use Rattle.settlement.proofs.SettleLaws.{paid-le, paid-near, paid-full, rounds-le, rounds-none, held-cases, held-exact, held-le}
 pub use Rattle.settlement.proofs.RoundLaws.{Backed, Ended, start, spread-ended, spread-rounds}
 -- late money
-pub use Rattle.settlement.proofs.LateLaws.{fill-sum, fill-mono, shortage-sum, paid-through, pay, late-near, late-le, late-full, late-open, tiers-in-order}
+pub use Rattle.settlement.proofs.LateLaws.{fill-sum, fill-mono, shortage-cong, shortage-sum, paid-through, pay, late-near, late-le, late-full, late-open, tiers-in-order}

@@ -1,7 +1,8 @@
 use borrow.Author.Needs.{needs}
-use Prim.Native.Nat.{ℕ, _-_, _+_, _*_, _/_, _%_, _≤_}
+use Prim.Native.Nat.{ℕ, _-_, _+_, _*_, _/_, _%_, _≤_, _<_}
 use mathlib.Core.Path.{_≡_, _∙_}
 use native.Mathlib.Omega.{arith}
+use borrow.Author.Tests.{lt-ltb}
 use Rattle.exact.specs.Rows.{at, filled}
 use Rattle.exact.proofs.RowLaws.{filled-none, filled-more, sum-term}
 use Rattle.settlement.specs.Month.{tiers, tierAt, tierCells, overTiers}
@@ -22,7 +23,8 @@ unfolding shortage fill
 value c =
     let k = c .before .before .before .before .loop .k in
     let e : tiers * (k / tiers) + k % tiers ≡ k = omega arith in
-    c .missing .ensures ∙ rw (c .before .tiers-before .ensures, e)
+    let l : k % tiers < tiers = omega arith in
+    c .missing .ensures ∙ rw (c .before .tiers-before .ensures, lt-ltb _ _ l, e)
 
 mul-k-end : tie.Need-mul-k-end Inv-loop μ-loop
 mul-k-end c = search needs
