@@ -3,3 +3,4 @@ pub mod FieldLaws
 pub mod EntryLaws
 pub mod Outcomes
 pub mod RoundTrips
+mod BookExamples

@@ -9,7 +9,7 @@ use borrow.Author.Tests.{lt-leb, le-ltb, eqb-true, eqb-false, ltb-false, not-fal
 use lib.Dec.{eqb, ltb, leb}
 use lib.ListN.{getD, length, take, drop, length-append}
 use lib.Seq.{take-at, drop-at, getD-at, drop-drop, drop-cons}
-use Rattle.book.specs.Checks.{Check, refusal}
+use Rattle.book.specs.Checks.{refusal}
 use Rattle.book.specs.Fields.{fieldBytes, Fit}
 use Rattle.book.specs.Entries.{bodyLength, unknown, layout, kindOf, fieldsOf, bytesOf, size}
 use Rattle.book.specs.Allowed.{allowed}
@@ -17,7 +17,7 @@ use Rattle.book.specs.Reading.{ReadOutcome, kindAt, nextPlace, entryAt, 
 use Rattle.book.specs.Writing.{WriteOutcome, writeChecks, writing, written}
 use Rattle.book.specs.RoundTrips.{WrittenThenRead, ReadThenWritten}
 use Rattle.book.specs.declared.entries.Entry.{Entry}
-use Rattle.book.proofs.CheckLaws.{passes}
+use Rattle.book.proofs.CheckLaws.{all-pass}
 use Rattle.book.proofs.FieldLaws.{total, fields-drop, fields-bytes, bytes-fields}
 use Rattle.book.proofs.EntryLaws.{kind-known, entry-again, kind-again, fields-again, layout-total, bytes-size}
 
@@ -94,7 +94,7 @@ module _ (e : Entry) (out : List ℕ) where
 pub written-then-read : WrittenThenRead
 written-then-read e out before after n f h =
     let t = taken e out n h in
-    let a : allowed e ≡ true = not-false (allowed e) (passes (not (allowed e)) 2 (drop 1 (writeChecks e (length out))) (t .0) .0) in
+    let a : allowed e ≡ true = not-false (allowed e) (all-pass (writeChecks e (length out)) refl (t .0) .0) in
     rw (in-front e out (t .0), ← t .1, take-at (bytesOf e) (drop (size e) out) (size e) (bytes-size e)) (bytes-read e before after a f)
 
 -- what holds where an entry was read
@@ -135,14 +135,13 @@ module _ (s : List ℕ) (place : ℕ) where
 pub read-then-written : ReadThenWritten
 unfolding writing
 read-then-written s out place next e small h room =
-    let checks : List Check = readChecks s place in
     let r = accepted s place next e h in
-    let some = passes (leb (length s) place) 0 (drop 1 checks) (r .0) in
-    let known = passes (unknown (kindAt s place)) 1 (drop 2 checks) (some .1) in
-    let whole = passes (ltb (length s) (nextPlace s place)) 0 (drop 3 checks) (known .1) in
-    let fits = passes (not (allowed (entryAt s place))) 2 [] (whole .1) in
-    let a : allowed e ≡ true = rw (r .2) at (not-false (allowed (entryAt s place)) (fits .0)) in
-    let n : size e ≡ next - place = rw (r .1, r .2) at (size-there s place (known .0)) in
-    let same = rw (r .1, r .2) at (bytes-again s place small (known .0) (ltb-false _ _ (whole .0))) in
-    let passed = room-for e out a (omega arith) in
-    (rw (passed, n), in-front e out passed ∙ rw (same, n))
+    let passed = all-pass (readChecks s place) refl (r .0) in
+    let known = passed .1 .0 in
+    let whole = passed .1 .1 .0 in
+    let fits = passed .1 .1 .1 .0 in
+    let a : allowed e ≡ true = rw (r .2) at (not-false (allowed (entryAt s place)) fits) in
+    let n : size e ≡ next - place = rw (r .1, r .2) at (size-there s place known) in
+    let same = rw (r .1, r .2) at (bytes-again s place small known (ltb-false _ _ whole)) in
+    let room-left = room-for e out a (omega arith) in
+    (rw (room-left, n), in-front e out room-left ∙ rw (same, n))

@@ -5,3 +5,12 @@ pub mod Allowed
 pub mod Reading
 pub mod Writing
 pub mod RoundTrips
+pub mod Kinds
+pub mod Periods
+pub mod State
+pub mod Rules
+pub mod Step
+pub mod Valid
+pub mod Log
+pub mod Demand3
+pub mod Examples

@@ -1,4 +1,8 @@
-// The clearing book: entries, read from bytes and written into them.
+// The clearing book: periods and entries.
+use exact::PLACES;
+use exact::Row;
+use settlement::TierCells;
+
 mod allowed;
 mod entries;
 mod fields;
@@ -10,3 +14,40 @@ pub use reader::Reading;
 pub use reader::read_entry;
 pub use writer::Writing;
 pub use writer::write_entry;
+
+// A side is 0, owing by a participant, or 1, owing to it.
+pub const SIDES: usize = 2;
+
+// The most periods in a book.
+pub const PERIODS: usize = 12;
+
+pub enum Stage {
+    Opened,
+    Noticed,
+    Settled,
+}
+
+// A period: each side's total, and rows of cents with a cell for each participant. `payable` is 0 until the notice,
+// `paid`, `claim` and `arrears` are 0 until the settlement.
+pub struct Period {
+    number: u32,
+    stage: Stage,
+    totals: [u64; SIDES],
+    by: Row,
+    to: TierCells,
+    payable: Row,
+    received: Row,
+    paid: Row,
+    claim: Row,
+    arrears: Row,
+}
+
+// A book of n participants: the highest period ever opened, the cents held, and its periods in the first `count`
+// places, oldest first.
+pub struct Book {
+    n: usize,
+    highest: u32,
+    count: usize,
+    held: u64,
+    periods: [Period; PERIODS],
+}

@@ -1,0 +1,89 @@
+-- The book's refusals, 3 to 14, in 01's order (01, Refused, by whoever causes it).
+use Prim.Native.Nat.{ℕ, _+_, _-_}
+use mathlib.Core.Bool.{Bool, false, cond, not}
+use mathlib.Core.List.{List, [], _∷_}
+use lib.Dec.{eqb, ltb, leb}
+use lib.ListN.{length}
+use Rattle.exact.specs.Rows.{at}
+use Rattle.exact.specs.Energy.{energyCents}
+use Rattle.settlement.specs.Month.{sideLimit}
+use Rattle.book.specs.Checks.{Check, on}
+use Rattle.book.specs.Allowed.{allowed}
+use Rattle.book.specs.Kinds.{periodOf, isOpen}
+use Rattle.book.specs.Periods.{isOpened, isNoticed, isSettled, sideTotal}
+use Rattle.book.specs.State.{State, mostPeriods, find, periodAt, earlierArrears}
+use Rattle.book.specs.declared.entries.Entry.{Entry}
+use Rattle.book.specs.declared.entries.Entry.the-variants.{Open, Energy, Amount, Notice, Receipt, Settle}
+use Rattle.book.specs.declared.Period.{Period}
+
+-- an entry, and the payout words that are lent with it
+pub record Input : Type 0 where
+  pub entry : Entry
+  pub words : List ℕ
+
+-- what may still be received from i: P_i not yet received, or i's arrears once settled
+unfoldable pub receivable : Period → ℕ → ℕ
+receivable p i = cond (isSettled (p .stage)) (at (p .arrears) i) (at (p .payable) i - at (p .received) i)
+
+-- n participants, and the period that the entry names; kinds 2 and 3: 12, 9 unless before notice, 11
+abbrev pub amountChecks : ℕ → Period → ℕ → ℕ → ℕ → List Check
+amountChecks n p i side cents =
+    on (leb n i) 12
+    ∷ on (not (isOpened (p .stage))) 9
+    ∷ on (ltb sideLimit (sideTotal n p side + cents)) 11
+    ∷ []
+
+-- kind 4: 9 unless before notice, 10
+abbrev pub noticeChecks : ℕ → Period → List Check
+noticeChecks n p = on (not (isOpened (p .stage))) 9 ∷ on (not (eqb (sideTotal n p 0) (sideTotal n p 1))) 10 ∷ []
+
+-- kind 5: 12, 9 before notice, 14 where `barred` says so, 13
+abbrev pub receiptChecks : ℕ → Bool → Period → ℕ → ℕ → List Check
+receiptChecks n barred p i cents =
+    on (leb n i) 12
+    ∷ on (isOpened (p .stage)) 9
+    ∷ on barred 14
+    ∷ on (ltb (receivable p i) cents) 13
+    ∷ []
+
+-- kind 6: 9 unless noticed and not settled
+abbrev pub settleChecks : Period → List Check
+settleChecks p = on (not (isNoticed (p .stage))) 9 ∷ []
+
+-- whether an earlier settled period has arrears of the payer: 14
+abbrev pub barring : Entry → List Period → Bool
+barring (Open k) ps = false
+barring (Energy k i side quantity price) ps = false
+barring (Amount k i side tier cents) ps = false
+barring (Notice k) ps = false
+barring (Receipt k i cents) ps = earlierArrears i k ps
+barring (Settle k) ps = false
+
+abbrev pub periodChecks : ℕ → Bool → Entry → Period → List Check
+periodChecks n barred (Open k) p = []
+periodChecks n barred (Energy k i side quantity price) p = amountChecks n p i side (energyCents quantity price)
+periodChecks n barred (Amount k i side tier cents) p = amountChecks n p i side cents
+periodChecks n barred (Notice k) p = noticeChecks n p
+periodChecks n barred (Receipt k i cents) p = receiptChecks n barred p i cents
+periodChecks n barred (Settle k) p = settleChecks p
+
+-- kind 1: 6, 7
+abbrev pub openChecks : State → ℕ → List Check
+openChecks s k = on (leb k (s .highest)) 6 ∷ on (leb mostPeriods (length (s .periods))) 7 ∷ []
+
+-- the other kinds: 8, then those of the period
+abbrev pub namedChecks : State → Entry → List Check
+namedChecks s e =
+    on (leb (length (s .periods)) (find (periodOf e) (s .periods))) 8
+    ∷ periodChecks (s .n) (barring e (s .periods)) e (periodAt (periodOf e) (s .periods))
+
+abbrev pub kindChecks : State → Entry → List Check
+kindChecks s e = cond (isOpen e) (openChecks s (periodOf e)) (namedChecks s e)
+
+-- the book checks 4, 5, 3, then those of the kind
+abbrev pub checks : State → Input → List Check
+checks s x =
+    on (eqb (s .n) 0) 4
+    ∷ on (ltb (length (x .words)) (s .n)) 5
+    ∷ on (not (allowed (x .entry))) 3
+    ∷ kindChecks s (x .entry)
