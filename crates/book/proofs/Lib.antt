@@ -4,3 +4,11 @@ pub mod EntryLaws
 pub mod Outcomes
 pub mod RoundTrips
 mod BookExamples
+mod CellLaws
+mod ListLaws
+mod Passing
+mod StepLaws
+mod ChangeLaws
+mod SettlementLaws
+mod EntryChanges
+pub mod ValidLaws

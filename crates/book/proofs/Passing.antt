@@ -1,0 +1,107 @@
+-- What an entry that passed the checks of its kind is known to be.
+use Prim.Native.Nat.{ℕ, zero, suc, _+_, _-_, _≤_, _<_}
+use mathlib.Core.Path.{_≡_, refl, subst}
+use mathlib.Core.Bool.{Bool, true, false, not, true≢false, false≢true}
+use mathlib.Core.Logic.{_⊎_, inl, inr}
+use native.Mathlib.Omega.{arith}
+use borrow.Author.Tests.{ltb-false, leb-false, eqb-true, not-false}
+use lib.Dec.{eqb, eqb·suc-zero}
+use Rattle.exact.specs.Rows.{at}
+use Rattle.settlement.specs.Month.{sideLimit, tiers}
+use Rattle.book.specs.Checks.{refusal}
+use Rattle.book.specs.Allowed.{tierOutside, outside, allowed}
+use Rattle.book.specs.Periods.{isOpened, isNoticed, isSettled, sideTotal}
+use Rattle.book.specs.Rules.{receivable, amountChecks, noticeChecks, receiptChecks, settleChecks}
+use Rattle.book.specs.declared.Stage.{Stage}
+use Rattle.book.specs.declared.Stage.the-variants.{Opened, Noticed, Settled}
+use Rattle.book.specs.declared.entries.Entry.the-variants.{Energy, Amount}
+use Rattle.book.specs.declared.Period.{Period}
+use Rattle.book.proofs.CheckLaws.{all-pass, none-false}
+
+opened-stage : (s : Stage) → not (isOpened s) ≡ false → s ≡ Opened
+opened-stage Opened e = refl
+opened-stage Noticed e = absurd (true≢false e)
+opened-stage Settled e = absurd (true≢false e)
+
+noticed-stage : (s : Stage) → not (isNoticed s) ≡ false → s ≡ Noticed
+noticed-stage Opened e = absurd (true≢false e)
+noticed-stage Noticed e = refl
+noticed-stage Settled e = absurd (true≢false e)
+
+later-stage : (s : Stage) → isOpened s ≡ false → (s ≡ Noticed) ⊎ (s ≡ Settled)
+later-stage Opened e = absurd (true≢false e)
+later-stage Noticed e = inl refl
+later-stage Settled e = inr refl
+
+pub settled-stage : (s : Stage) → isSettled s ≡ true → s ≡ Settled
+settled-stage Opened e = absurd (false≢true e)
+settled-stage Noticed e = absurd (false≢true e)
+settled-stage Settled e = refl
+
+-- an amount has a place on its side: tier 1 to 5 where it is owing to a participant
+abbrev pub Placed : ℕ → ℕ → Type 0
+Placed side tier = (side ≡ 0) ⊎ ((side ≡ 1) × (0 < tier) × (tier ≤ tiers))
+
+placed : (side tier : ℕ) → side ≤ 1 → (side ≡ 1 → (0 < tier) × (tier ≤ tiers)) → Placed side tier
+placed zero tier l f = inl refl
+placed (suc zero) tier l f = inr (refl, f refl .0, f refl .1)
+placed (suc (suc side)) tier l f = absurd (omega arith)
+
+tier-inside : (tier : ℕ) → tierOutside 1 tier ≡ false → (0 < tier) × (tier ≤ tiers)
+tier-inside zero e = absurd (true≢false e)
+tier-inside (suc t) e = (omega arith, ltb-false tiers (suc t) (rw (eqb·suc-zero t) at e))
+
+pub amount-placed : (k i side tier cents : ℕ) → allowed (Amount k i side tier cents) ≡ true → Placed side tier
+amount-placed k i side tier cents e =
+    let f = none-false (outside (Amount k i side tier cents)) e in
+    placed side tier (ltb-false 1 side (f .1 .0)) (λ q. tier-inside tier (subst (λ s. tierOutside s tier ≡ false) q (f .1 .1 .0)))
+
+pub energy-placed : (k i side quantity price : ℕ) → allowed (Energy k i side quantity price) ≡ true → Placed side tiers
+energy-placed k i side quantity price e =
+    let f = none-false (outside (Energy k i side quantity price)) e in
+    placed side tiers (ltb-false 1 side (f .1 .0)) (λ _. (omega arith, omega arith))
+
+-- n participants, and the period that the entry names
+module _ (n : ℕ) (p : Period) where
+  pub record PassesAmount (i side cents : ℕ) : Type 0 where
+    pub member : i < n
+    pub stage : p .stage ≡ Opened
+    pub fits : sideTotal n p side + cents ≤ sideLimit
+
+  pub amount-passes : (i side cents : ℕ) → refusal (amountChecks n p i side cents) ≡ 0 → PassesAmount i side cents
+  amount-passes i side cents e =
+      let f = all-pass (amountChecks n p i side cents) refl e in
+      record {
+        member = leb-false n i (f .0);
+        stage = opened-stage (p .stage) (f .1 .0);
+        fits = ltb-false sideLimit (sideTotal n p side + cents) (f .1 .1 .0);
+      }
+
+  pub record PassesNotice : Type 0 where
+    pub stage : p .stage ≡ Opened
+    pub equal : sideTotal n p 0 ≡ sideTotal n p 1
+
+  pub notice-passes : refusal (noticeChecks n p) ≡ 0 → PassesNotice
+  notice-passes e =
+      let f = all-pass (noticeChecks n p) refl e in
+      record {
+        stage = opened-stage (p .stage) (f .0);
+        equal = eqb-true (sideTotal n p 0) (sideTotal n p 1) (not-false (eqb (sideTotal n p 0) (sideTotal n p 1)) (f .1 .0));
+      }
+
+  pub record PassesReceipt (i cents : ℕ) : Type 0 where
+    pub member : i < n
+    pub stage : (p .stage ≡ Noticed) ⊎ (p .stage ≡ Settled)
+    pub fits : cents ≤ receivable p i
+
+  pub receipt-passes : (barred : Bool) (i cents : ℕ) → refusal (receiptChecks n barred p i cents) ≡ 0 → PassesReceipt i cents
+  receipt-passes barred i cents e =
+      let f = all-pass (receiptChecks n barred p i cents) refl e in
+      record {
+        member = leb-false n i (f .0);
+        stage = later-stage (p .stage) (f .1 .0);
+        fits = ltb-false (receivable p i) cents (f .1 .1 .1 .0);
+      }
+
+pub settle-passes : (p : Period) → refusal (settleChecks p) ≡ 0 → p .stage ≡ Noticed
+settle-passes p e = noticed-stage (p .stage) (all-pass (settleChecks p) refl e .0)
