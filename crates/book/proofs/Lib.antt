@@ -12,3 +12,13 @@ mod ChangeLaws
 mod SettlementLaws
 mod EntryChanges
 pub mod ValidLaws
+mod LogLaws
+mod Tracking
+mod Reckoned
+mod LateTracking
+mod EntryTracks
+mod Invariant
+mod Opening
+mod Naming
+mod Histories
+pub mod Demand3
