@@ -1,7 +1,7 @@
 -- The laws of a month: all that a crate above may use of its definitions.
 
 -- where a tier stands in a flat array; retention is at most the tier 5 part, and that at most all that is owing
-pub use Rattle.settlement.proofs.MonthLaws.{tier-at, tier5-le}
+pub use Rattle.settlement.proofs.MonthLaws.{tier-at, tier-le, tier5-le}
 pub use Rattle.settlement.proofs.RetentionLaws.{retention-sound}
 -- payable amounts and full claims
 pub use Rattle.settlement.proofs.NoticeLaws.{full-max, full-balance, retained-le-full, full-le, payable-le, full-total}
