@@ -9,7 +9,7 @@ use Rattle.exact.specs.Rows.{sum}
 use Rattle.exact.proofs.RowLaws.{sum-zero, sum-mono}
 use Rattle.settlement.specs.Settling.{held}
 use Rattle.book.specs.Periods.{isSettled, holds, leaves}
-use Rattle.book.specs.State.{State, view, heldIn, pack, numbers, numbersIn, centsHeld}
+use Rattle.book.specs.State.{State, view, heldIn, numbers, numbersIn}
 use Rattle.book.specs.Valid.{All, AtStage, InBook, Valid, AfterSettlement}
 use Rattle.book.specs.Log.{Log, Account, nothing, account, received, heldMoney, unpaidClaims, arrears}
 use Rattle.book.specs.Demand3.{History, begun, after, Has, moneyHeld, WasOpened, WasSettled, WithoutArrears, NothingCutOff, Clauses, Demand3}
@@ -22,6 +22,7 @@ use Rattle.book.proofs.ListLaws.{rising-numbers, all-both, all-has}
 use Rattle.book.proofs.Tracking.{Since, Staged}
 use Rattle.book.proofs.Reckoned.{received-total, paid-total, arrears-total, cut-off, claims-balance, little-held}
 use Rattle.book.proofs.ValidLaws.{view-pack, pack-valid}
+use Rattle.book.proofs.Packing.{kept-held}
 use Rattle.book.proofs.Invariant.{Closed, Kept, Inv}
 use Rattle.book.proofs.Histories.{Reached, reached}
 
@@ -93,10 +94,6 @@ module _ (n : ℕ) (b : Book) (log : Log) (valid : Valid b) (sized : ((b .n ≡ 
           (λ (q : b .n ≡ n). subst (λ (m : ℕ). All (InBook m) (view b .periods)) q (valid .fit .each))
           sized
 
-  kept-held : centsHeld b ≡ heldIn (b .n) (view b .periods)
-  unfolding pack
-  kept-held = ap (λ (c : Book). c .held) (valid .packed)
-
   held-there : heldIn (b .n) (view b .periods) ≡ heldIn n (view b .periods)
   unfolding heldIn
   held-there = ⊎-elim
@@ -135,7 +132,7 @@ module _ (n : ℕ) (b : Book) (log : Log) (valid : Valid b) (sized : ((b .n ≡ 
   clauses = record {
     valid = valid;
     cents = omega (arith, inv .cents, held-listed n log (view b .periods) present);
-    listed = kept-held ∙ held-there ∙ held-listed n log (view b .periods) present;
+    listed = kept-held valid ∙ held-there ∙ held-listed n log (view b .periods) present;
     claims = there _ (claims-there n log);
     held-bound = there _ (little-there n log);
     left = λ k o ne. let c = gone k o ne in (omega (arith, c .settled), c .clear);

@@ -7,6 +7,7 @@ use mathlib.Core.Logic.{_⊎_, inl, inr, ⊎-elim}
 use borrow.Author.Tests.{ne-eqb}
 use lib.Dec.{eqb}
 use Rattle.exact.specs.Rows.{places}
+use native.Mathlib.Omega.{arith}
 use Rattle.exact.proofs.Cases.{cases, cases-eq, eq-or-ne}
 use Rattle.book.specs.Checks.{refusal}
 use Rattle.book.specs.Kinds.{isOpen}
@@ -71,7 +72,7 @@ module _ (n : ℕ) (s : State) (x : Input) (log : Log) (f : SoundState s) (sized
   accepted-after : refusal (checks s x) ≡ 0 → After
   accepted-after e =
       ⊎-elim
-      (λ q. absurd (enters s x e .0 .some (q .0)))
+      (λ q. absurd (omega (arith, enters s x e .0 .some, q .0)))
       (λ (q : s .n ≡ n). (
         inr (step-n s x ∙ q),
         subst (λ (m : ℕ). Inv m (step s x .state .highest) (step s x .state .periods) (logged x (step s x) log)) q

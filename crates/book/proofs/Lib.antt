@@ -12,6 +12,8 @@ mod ChangeLaws
 mod SettlementLaws
 mod EntryChanges
 pub mod ValidLaws
+mod Packing
+mod Bounds
 mod LogLaws
 mod Tracking
 mod Reckoned
@@ -21,4 +23,6 @@ mod Invariant
 mod Opening
 mod Naming
 mod Histories
+mod Replies
+mod Named
 pub mod Demand3

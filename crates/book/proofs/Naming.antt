@@ -11,7 +11,7 @@ use Rattle.exact.proofs.RowLaws.{sum-cong, sum-term}
 use Rattle.book.specs.Kinds.{periodOf, isReceipt, receiptCents}
 use Rattle.book.specs.Periods.{holds, leaves, Change, changed}
 use Rattle.book.specs.State.{State, find, periodAt, replaced, removed}
-use Rattle.book.specs.Rules.{Input}
+use Rattle.book.specs.Rules.{Input, Entered}
 use Rattle.book.specs.Step.{stored, payoutWords, opened}
 use Rattle.book.specs.Valid.{Sound, AtStage, SoundState, AfterSettlement}
 use Rattle.book.specs.Log.{Accepted, Log, Account, entered, account, claim, arrears}
@@ -25,7 +25,7 @@ use Rattle.book.proofs.ListLaws.{all-right, find-number, find-split}
 use Rattle.book.proofs.Tracking.{Tracks, Since, Staged, Paid, words-paid}
 use Rattle.book.proofs.Reckoned.{claim-is, arrears-is, cut-off, received-total, paid-total}
 use Rattle.book.proofs.EntryTracks.{entry-tracks, entry-in-order}
-use Rattle.book.proofs.StepLaws.{Enters, Names}
+use Rattle.book.proofs.StepLaws.{Names}
 use Rattle.book.proofs.ValidLaws.{named-in-book, named-changes}
 use Rattle.book.proofs.Invariant.{Closed, Kept, Inv, stays, goes}
 
@@ -47,7 +47,7 @@ closes n p a s t o l full =
     }
 
 -- an entry that names a period in the book
-module _ (s : State) (x : Input) (f : SoundState s) (i : Enters s x) (o : Names s x) (log : Log) (inv : Inv (s .n) (s .highest) (s .periods) log) where
+module _ (s : State) (x : Input) (f : SoundState s) (i : Entered s x) (o : Names s x) (log : Log) (inv : Inv (s .n) (s .highest) (s .periods) log) where
   abbrev j : ℕ
   j = find (periodOf (x .entry)) (s .periods)
 

@@ -9,9 +9,8 @@ use Rattle.exact.specs.Rows.{places, at}
 use Rattle.exact.proofs.Cases.{eq-or-ne}
 use Rattle.exact.proofs.RowLaws.{sum-cong}
 use Rattle.settlement.specs.Month.{tiers, tierAt}
-use Rattle.settlement.specs.Settling.{held}
 use Rattle.book.specs.Kinds.{periodOf, isOpen, isReceipt, isSettle, receiptCents}
-use Rattle.book.specs.Periods.{zeros, fresh, holds}
+use Rattle.book.specs.Periods.{zeros, fresh}
 use Rattle.book.specs.State.{heldIn, numbers}
 use Rattle.book.specs.Step.{opened}
 use Rattle.book.specs.Valid.{All}
@@ -25,6 +24,7 @@ use Rattle.book.proofs.ChangeLaws.{no-pays}
 use Rattle.book.proofs.ListLaws.{all-join, all-both, rising-more, has-more, has-it}
 use Rattle.book.proofs.LogLaws.{account-same, account-other}
 use Rattle.book.proofs.Tracking.{Tracks, Paid}
+use Rattle.book.proofs.ValidLaws.{fresh-holds}
 use Rattle.book.proofs.Invariant.{Closed, Kept, Inv, held-join}
 
 -- an open entry
@@ -89,10 +89,6 @@ module _ (n highest : ℕ) (ps : List Period) (log : Log) (inv : Inv n highest p
       let e = account-other (q .number) x log (λ e. omega arith) in
       record { tracks = subst (Tracks n q) (sym e) (c .tracks); opened = ap (λ (a : Account). a .openings) e ∙ c .opened }
 
-  fresh-holds : holds n (fresh k) ≡ 0
-  unfolding fresh holds held
-  fresh-holds = omega (arith, no-pays n)
-
   known : (j : ℕ) → (account j (x ∷ log) ≡ nothing) ⊎ (Has j (numbers (ps ++ (fresh k ∷ []))) ⊎ Closed n (account j (x ∷ log)))
   unfolding fresh
   known j = ⊎-elim (λ e. inr (inl (subst (λ (j : ℕ). Has j (numbers (ps ++ (fresh k ∷ [])))) e (has-it (fresh k) [] ps)))) (λ ne. go ne (inv .known j)) (eq-or-ne k j)
@@ -114,5 +110,5 @@ module _ (n highest : ℕ) (ps : List Period) (log : Log) (inv : Inv n highest p
     above = λ j h. account-other j x log (λ e. omega arith) ∙ inv .above j (omega arith);
     known = known;
     order = (λ j q r. absurd (true≢false (sym r ∙ d .no-receipt)), inv .order);
-    cents = omega (arith, inv .cents, fresh-holds, d .no-cents, held-join n ps (fresh k ∷ []), sum-cong (at (x .words)) (at (zeros places)) n w, no-pays n);
+    cents = omega (arith, inv .cents, fresh-holds n k, d .no-cents, held-join n ps (fresh k ∷ []), sum-cong (at (x .words)) (at (zeros places)) n w, no-pays n);
   }

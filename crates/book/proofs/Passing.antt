@@ -6,15 +6,17 @@ use mathlib.Core.Logic.{_⊎_, inl, inr}
 use native.Mathlib.Omega.{arith}
 use borrow.Author.Tests.{ltb-false, leb-false, eqb-true, not-false}
 use lib.Dec.{eqb, eqb·suc-zero}
-use Rattle.exact.specs.Rows.{at}
+use Rattle.exact.specs.Rows.{places, at}
+use Rattle.exact.specs.Energy.{quantityLimit, priceLimit}
 use Rattle.settlement.specs.Month.{sideLimit, tiers}
 use Rattle.book.specs.Checks.{refusal}
-use Rattle.book.specs.Allowed.{tierOutside, outside, allowed}
+use Rattle.book.specs.Allowed.{centsLimit, tierOutside, outside, allowed}
 use Rattle.book.specs.Periods.{isOpened, isNoticed, isSettled, sideTotal}
 use Rattle.book.specs.Rules.{receivable, amountChecks, noticeChecks, receiptChecks, settleChecks}
 use Rattle.book.specs.declared.Stage.{Stage}
 use Rattle.book.specs.declared.Stage.the-variants.{Opened, Noticed, Settled}
-use Rattle.book.specs.declared.entries.Entry.the-variants.{Energy, Amount}
+use Rattle.book.specs.declared.entries.Entry.{Entry}
+use Rattle.book.specs.declared.entries.Entry.the-variants.{Open, Energy, Amount, Notice, Receipt, Settle}
 use Rattle.book.specs.declared.Period.{Period}
 use Rattle.book.proofs.CheckLaws.{all-pass, none-false}
 
@@ -60,6 +62,29 @@ pub energy-placed : (k i side quantity price : ℕ) → allowed (Energy k i side
 energy-placed k i side quantity price e =
     let f = none-false (outside (Energy k i side quantity price)) e in
     placed side tiers (ltb-false 1 side (f .1 .0)) (λ _. (omega arith, omega arith))
+
+-- the values that an allowed entry's fields have
+abbrev pub Inside : Entry → Type 0
+Inside (Open k) = Unit {0}
+Inside (Energy k i side quantity price) = (i < places) × (side < 2) × (quantity ≤ quantityLimit) × (price ≤ priceLimit)
+Inside (Amount k i side tier cents) = (i < places) × (side < 2) × (cents ≤ centsLimit)
+Inside (Notice k) = Unit {0}
+Inside (Receipt k i cents) = (i < places) × (cents ≤ centsLimit)
+Inside (Settle k) = Unit {0}
+
+pub allowed-inside : (e : Entry) → allowed e ≡ true → Inside e
+allowed-inside (Open k) e = tt
+allowed-inside (Energy k i side quantity price) e =
+    let f = none-false (outside (Energy k i side quantity price)) e in
+    (leb-false places i (f .0), omega (arith, ltb-false 1 side (f .1 .0)), ltb-false quantityLimit quantity (f .1 .1 .0), ltb-false priceLimit price (f .1 .1 .1 .0))
+allowed-inside (Amount k i side tier cents) e =
+    let f = none-false (outside (Amount k i side tier cents)) e in
+    (leb-false places i (f .0), omega (arith, ltb-false 1 side (f .1 .0)), ltb-false centsLimit cents (f .1 .1 .1 .1 .0))
+allowed-inside (Notice k) e = tt
+allowed-inside (Receipt k i cents) e =
+    let f = none-false (outside (Receipt k i cents)) e in
+    (leb-false places i (f .0), ltb-false centsLimit cents (f .1 .1 .0))
+allowed-inside (Settle k) e = tt
 
 -- n participants, and the period that the entry names
 module _ (n : ℕ) (p : Period) where

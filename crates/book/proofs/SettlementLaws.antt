@@ -157,6 +157,14 @@ module _ (n : ℕ) (p : Period) (s : Sound n p) (settled : p .stage ≡ Settled)
         (left-settled n (withLateReceipt n p i cents .period) l .1) j h;
   }
 
+  -- nobody is paid more than its claim
+  pub late-paid-le : (j : ℕ) → j < n → at (p .paid) j + at (latePays n (withReceipt p i cents)) j ≤ at (p .claim) j
+  late-paid-le j h = omega (
+    arith,
+    pays-at j h,
+    late-le (tierAt (p .to)) (at (p .claim)) (at (p .paid)) n money (sum (at remaining) n) (since .paid-le) (since .claim-le) balanced j h,
+  )
+
   -- tiers are met in order
   pub late-order : let after = at (withLateReceipt n p i cents .period .paid) in
       (t j : ℕ) → t < tiers → j < n → fill (tiersOf (tierAt (p .to)) j) (at (p .paid) j) t < fill (tiersOf (tierAt (p .to)) j) (after j) t

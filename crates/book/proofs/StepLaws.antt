@@ -1,29 +1,25 @@
 -- The two ways of an entry: what is known of an accepted one, and that a refused one changes nothing.
-use Prim.Native.Nat.{_≤_, _<_}
+use Prim.Native.Nat.{ℕ, _<_}
 use mathlib.Core.Path.{_≡_, refl, sym, _∙_}
 use mathlib.Core.Bool.{Bool, true, false, cond, not}
 use mathlib.Core.List.{drop}
 use mathlib.Core.Logic.{_⊎_, inl, inr}
+use native.Mathlib.Omega.{arith}
 use borrow.Author.Tests.{eq-eqb, ne-eqb, eqb-true, eqb-false, ltb-false, leb-false, not-false}
 use lib.Dec.{eqb, ltb, leb}
 use lib.ListN.{length}
 use Rattle.book.specs.Checks.{refusal}
 use Rattle.book.specs.Allowed.{allowed}
 use Rattle.book.specs.Kinds.{periodOf, isOpen}
-use Rattle.book.specs.Periods.{changed}
-use Rattle.book.specs.State.{State, mostPeriods, find, periodAt}
-use Rattle.book.specs.Rules.{Input, periodChecks, barring, openChecks, namedChecks, kindChecks, checks}
-use Rattle.book.specs.Step.{opened, moved, accepted, refused, step}
+use Rattle.book.specs.Periods.{leaves, changed}
+use Rattle.book.specs.State.{State, mostPeriods, find, periodAt, replaced, removed}
+use Rattle.book.specs.Rules.{Input, Entered, periodChecks, barring, openChecks, namedChecks, kindChecks, checks}
+use Rattle.book.specs.Step.{stored, opened, moved, accepted, refused, step}
+use Rattle.book.specs.declared.Period.{Period}
 use Rattle.book.proofs.CheckLaws.{passes, all-pass}
 
 module _ (s : State) (x : Input) where
-  -- 4, 5 and 3 are passed
-  pub record Enters : Type 0 where
-    pub some : s .n ≡ 0 → ⊥
-    pub words : s .n ≤ length (x .words)
-    pub fields : allowed (x .entry) ≡ true
-
-  -- and those of an open entry, or of one that names a period in the book
+  -- the checks of an open entry are passed, or of one that names a period in the book
   pub record Opens : Type 0 where
     pub is-open : isOpen (x .entry) ≡ true
     pub above : s .highest < periodOf (x .entry)
@@ -34,14 +30,14 @@ module _ (s : State) (x : Input) where
     pub found : find (periodOf (x .entry)) (s .periods) < length (s .periods)
     pub passed : refusal (periodChecks (s .n) (barring (x .entry) (s .periods)) (x .entry) (periodAt (periodOf (x .entry)) (s .periods))) ≡ 0
 
-  pub enters : refusal (checks s x) ≡ 0 → Enters × (refusal (kindChecks s (x .entry)) ≡ 0)
+  pub enters : refusal (checks s x) ≡ 0 → Entered s x × (refusal (kindChecks s (x .entry)) ≡ 0)
   enters e =
       let a = passes (eqb (s .n) 0) 3 (drop 1 (checks s x)) e in
       let b = passes (ltb (length (x .words)) (s .n)) 4 (drop 2 (checks s x)) (a .1) in
       let c = passes (not (allowed (x .entry))) 2 (kindChecks s (x .entry)) (b .1) in (
         record {
-          some = eqb-false (s .n) 0 (a .0);
-          words = ltb-false (length (x .words)) (s .n) (b .0);
+          some = let ne : s .n ≡ 0 → ⊥ = eqb-false (s .n) 0 (a .0) in omega arith;
+          enough = ltb-false (length (x .words)) (s .n) (b .0);
           fields = not-false (allowed (x .entry)) (c .0);
         },
         c .1,
@@ -98,3 +94,13 @@ module _ (s : State) (x : Input) where
       go : (t : Bool) → eqb (refusal (checks s x)) 0 ≡ t → cond t (accepted s x) (refused s x (refusal (checks s x))) .answer ≡ refusal (checks s x)
       go true q = accepted-answer ∙ sym (eqb-true (refusal (checks s x)) 0 q)
       go false q = refl
+
+-- a period that leaves is taken out, one that stays is stored
+module _ (s : State) (j : ℕ) (p : Period) where
+  pub stored-leaves : leaves (s .n) p ≡ true → stored s j p ≡ removed s j
+  unfolding stored
+  stored-leaves l = rw l
+
+  pub stored-stays : leaves (s .n) p ≡ false → stored s j p ≡ replaced s j p
+  unfolding stored
+  stored-stays l = rw l

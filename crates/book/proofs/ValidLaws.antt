@@ -13,11 +13,12 @@ use Rattle.exact.specs.Rows.{places, at, sum}
 use Rattle.exact.proofs.Cases.{cases, cases-eq}
 use Rattle.exact.proofs.RowLaws.{sum-zero}
 use Rattle.settlement.specs.Month.{tiers, overTiers, tierAt}
+use Rattle.settlement.specs.Settling.{held}
 use Rattle.book.specs.Checks.{refusal}
 use Rattle.book.specs.Kinds.{periodOf, isOpen, isSettle, receiptCents}
-use Rattle.book.specs.Periods.{isSettled, zeros, sideTotal, fresh, leaves, Change, changed, withLateReceipt}
+use Rattle.book.specs.Periods.{isSettled, zeros, holds, sideTotal, fresh, leaves, Change, changed, withLateReceipt}
 use Rattle.book.specs.State.{State, view, pack, mostPeriods, Making, makingChecks, made, find, periodAt, replaced, removed, added}
-use Rattle.book.specs.Rules.{Input, checks}
+use Rattle.book.specs.Rules.{Input, Entered, checks}
 use Rattle.book.specs.Step.{Outcome, stored, accepted, step, reply}
 use Rattle.book.specs.Valid.{All, InBook, SoundState, Valid, StaysValid, RefusalChangesNothing, RoundsOfSettlements}
 use Rattle.book.specs.declared.entries.Entry.{Entry}
@@ -28,7 +29,7 @@ use Rattle.book.proofs.CellLaws.{zeros-length, zeros-at, zeros-over}
 use Rattle.book.proofs.ChangeLaws.{Changes, no-pays}
 use Rattle.book.proofs.EntryChanges.{entry-changes}
 use Rattle.book.proofs.ListLaws.{all-join, all-left, all-right, find-split}
-use Rattle.book.proofs.StepLaws.{Enters, Opens, Names, enters, by-kind, step-accepted, step-refused, accepted-opens, accepted-names, step-answer}
+use Rattle.book.proofs.StepLaws.{Opens, Names, enters, by-kind, step-accepted, step-refused, accepted-opens, accepted-names, step-answer}
 
 -- a period just opened
 pub fresh-in-book : (n k : ℕ) → n ≤ places → InBook n (fresh k)
@@ -55,8 +56,12 @@ fresh-in-book n k few = record {
     kept (suc zero) l = sym none-to
     kept (suc (suc side)) l = absurd (omega arith)
 
+pub fresh-holds : (n k : ℕ) → holds n (fresh k) ≡ 0
+unfolding fresh holds held
+fresh-holds n k = omega (arith, no-pays n)
+
 -- the period that an accepted entry names
-module _ (s : State) (x : Input) (f : SoundState s) (i : Enters s x) (o : Names s x) where
+module _ (s : State) (x : Input) (f : SoundState s) (i : Entered s x) (o : Names s x) where
   abbrev j : ℕ
   j = find (periodOf (x .entry)) (s .periods)
 
@@ -113,7 +118,7 @@ module _ (s : State) (x : Input) (f : SoundState s) where
   pub step-fit : SoundState (step s x .state)
   step-fit = go (eqb (refusal (checks s x)) 0) refl
     where
-      taken : Enters s x → Opens s x ⊎ Names s x → refusal (checks s x) ≡ 0 → SoundState (step s x .state)
+      taken : Entered s x → Opens s x ⊎ Names s x → refusal (checks s x) ≡ 0 → SoundState (step s x .state)
       taken i (inl o) e = rw (step-accepted s x e, accepted-opens s x o) (opened-fit o)
       taken i (inr o) e = rw (step-accepted s x e, accepted-names s x o) (moved-fit s x f i o)
 

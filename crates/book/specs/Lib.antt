@@ -11,6 +11,9 @@ pub mod State
 pub mod Rules
 pub mod Step
 pub mod Valid
+pub mod Answers
+pub mod Acting
+pub mod Applying
 pub mod Log
 pub mod Demand3
 pub mod Examples

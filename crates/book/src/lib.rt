@@ -3,13 +3,27 @@ use exact::PLACES;
 use exact::Row;
 use settlement::TierCells;
 
+mod acting;
 mod allowed;
+mod answering;
+mod answers;
+mod applying;
 mod entries;
 mod fields;
+mod periods;
+mod places;
 mod reader;
+mod words;
 mod writer;
 
+pub use answers::Answer;
+pub use answers::number;
+pub use applying::Applied;
+pub use applying::apply;
 pub use entries::Entry;
+pub use places::Made;
+pub use places::held;
+pub use places::new;
 pub use reader::Reading;
 pub use reader::read_entry;
 pub use writer::Writing;

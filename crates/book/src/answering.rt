@@ -1,0 +1,132 @@
+// What an entry is answered by the period that it names.
+ghost use mathlib.Core.Path.{_≡_};
+ghost use mathlib.Core.Bool.{true};
+ghost use Prim.Native.Nat.{_≤_, _<_};
+ghost use Rattle.exact.specs.Rows.{places};
+ghost use Rattle.settlement.specs.Month.{sideLimit};
+ghost use Rattle.book.specs.Checks.{refusal};
+ghost use Rattle.book.specs.Allowed.{allowed};
+ghost use Rattle.book.specs.Rules.{receivable, amountChecks, noticeChecks, receiptChecks, settleChecks, periodChecks};
+ghost use Rattle.book.specs.Valid.{Sound};
+ghost use Rattle.book.specs.Answers.{numberOf};
+use crate::Period;
+use crate::answers::Answer;
+use crate::entries::Entry;
+use crate::periods::is_noticed;
+use crate::periods::is_opened;
+use crate::periods::is_settled;
+use exact::energy_cents;
+use exact::excess;
+
+const SIDE_LIMIT: u64 = 10_000_000_000_000;
+
+// 12, 9, 11.
+fn amount_answer(p: Period, n: usize, i: usize, side: usize, cents: u64) -> Answer
+    requires { ⌜ Sound n p × (side < 2) × (cents ≤ sideLimit) ⌝ }
+    ensures { λ r. ⌜ numberOf r ≡ refusal (amountChecks n p i side cents) ⌝ }
+{
+    if n <= i {
+        return Answer::NotAParticipant;
+    }
+    let s = p.stage;
+    if !is_opened(s) {
+        return Answer::WrongStage;
+    }
+    if SIDE_LIMIT < p.totals[side] + cents {
+        return Answer::PastBound;
+    }
+    Answer::Accepted
+}
+
+// 9, 10.
+fn notice_answer(p: Period, n: usize) -> Answer
+    requires { ⌜ Sound n p ⌝ }
+    ensures { λ r. ⌜ numberOf r ≡ refusal (noticeChecks n p) ⌝ }
+{
+    let s = p.stage;
+    if !is_opened(s) {
+        return Answer::WrongStage;
+    }
+    if p.totals[0] != p.totals[1] {
+        return Answer::Unequal;
+    }
+    Answer::Accepted
+}
+
+// What may still be received from i.
+fn receivable_from(p: Period, i: usize) -> u64
+    requires { ⌜ i < places ⌝ }
+    ensures { λ r. ⌜ r ≡ receivable p i ⌝ }
+{
+    let s = p.stage;
+    if is_settled(s) {
+        return p.arrears[i];
+    }
+    excess(p.payable[i], p.received[i])
+}
+
+// 12, 9, 14, 13.
+fn receipt_answer(p: Period, n: usize, i: usize, barred: bool, cents: u64) -> Answer
+    requires { ⌜ i < places ⌝ }
+    ensures { λ r. ⌜ numberOf r ≡ refusal (receiptChecks n barred p i cents) ⌝ }
+{
+    if n <= i {
+        return Answer::NotAParticipant;
+    }
+    let s = p.stage;
+    if is_opened(s) {
+        return Answer::WrongStage;
+    }
+    if barred {
+        return Answer::EarlierArrears;
+    }
+    if receivable_from(p, i) < cents {
+        return Answer::TooMuch;
+    }
+    Answer::Accepted
+}
+
+// 9.
+fn settle_answer(p: Period) -> Answer
+    ensures { λ r. ⌜ numberOf r ≡ refusal (settleChecks p) ⌝ }
+{
+    let s = p.stage;
+    if is_noticed(s) {
+        return Answer::Accepted;
+    }
+    Answer::WrongStage
+}
+
+// The checks of each kind on its period; `barred` is whether another period refuses a receipt (14).
+pub fn period_answer(p: Period, n: usize, e: Entry, barred: bool) -> Answer
+    requires { ⌜ Sound n p × (allowed e ≡ true) ⌝ }
+    ensures { λ r. ⌜ numberOf r ≡ refusal (periodChecks n barred e p) ⌝ }
+{
+    match e {
+        Entry::Open { period: _ } => Answer::Accepted,
+        Entry::Energy {
+            period: _,
+            participant,
+            side,
+            quantity,
+            price,
+        } => {
+            let cents = energy_cents(quantity as u64, price as u64);
+            amount_answer(p, n, participant as usize, side as usize, cents)
+        }
+        Entry::Amount {
+            period: _,
+            participant,
+            side,
+            tier: _,
+            cents,
+        } => amount_answer(p, n, participant as usize, side as usize, cents),
+        Entry::Notice { period: _ } => notice_answer(p, n),
+        Entry::Receipt {
+            period: _,
+            participant,
+            cents,
+        } => receipt_answer(p, n, participant as usize, barred, cents),
+        Entry::Settle { period: _ } => settle_answer(p),
+    }
+}

@@ -1,0 +1,61 @@
+// The book's answers.
+ghost use mathlib.Core.Path.{_≡_};
+ghost use lib.Dec.{eqb};
+ghost use Rattle.book.specs.Answers.{numberOf};
+
+pub enum Answer {
+    Accepted,
+    Outside,
+    NoParticipants,
+    FewWords,
+    NotAbove,
+    Full,
+    NotInBook,
+    WrongStage,
+    Unequal,
+    PastBound,
+    NotAParticipant,
+    TooMuch,
+    EarlierArrears,
+}
+
+pub fn is_accepted(a: Answer) -> bool
+    ensures { λ r. ⌜ r ≡ eqb (numberOf a) 0 ⌝ }
+{
+    match a {
+        Answer::Accepted => true,
+        Answer::Outside => false,
+        Answer::NoParticipants => false,
+        Answer::FewWords => false,
+        Answer::NotAbove => false,
+        Answer::Full => false,
+        Answer::NotInBook => false,
+        Answer::WrongStage => false,
+        Answer::Unequal => false,
+        Answer::PastBound => false,
+        Answer::NotAParticipant => false,
+        Answer::TooMuch => false,
+        Answer::EarlierArrears => false,
+    }
+}
+
+// The number that the rules give an answer.
+pub fn number(a: Answer) -> u64
+    ensures { λ r. ⌜ r ≡ numberOf a ⌝ }
+{
+    match a {
+        Answer::Accepted => 0,
+        Answer::Outside => 3,
+        Answer::NoParticipants => 4,
+        Answer::FewWords => 5,
+        Answer::NotAbove => 6,
+        Answer::Full => 7,
+        Answer::NotInBook => 8,
+        Answer::WrongStage => 9,
+        Answer::Unequal => 10,
+        Answer::PastBound => 11,
+        Answer::NotAParticipant => 12,
+        Answer::TooMuch => 13,
+        Answer::EarlierArrears => 14,
+    }
+}

@@ -1,0 +1,244 @@
+// One entry of any kind.
+ghost use mathlib.Core.Path.{_≡_};
+ghost use mathlib.Core.Bool.{true, false};
+ghost use Prim.Native.Nat.{_≤_, _<_};
+ghost use lib.ListN.{length};
+ghost use Rattle.book.specs.Allowed.{allowed};
+ghost use Rattle.book.specs.Kinds.{periodOf, isOpen, receiptCents};
+ghost use Rattle.book.specs.State.{view};
+ghost use Rattle.book.specs.Rules.{Entered, barring};
+ghost use Rattle.book.specs.Step.{reply};
+ghost use Rattle.book.specs.Valid.{Valid};
+ghost use Rattle.book.specs.Answers.{numberOf};
+ghost use Rattle.book.specs.Applying.{replied};
+use crate::Book;
+use crate::PERIODS;
+use crate::acting::change_period;
+use crate::allowed::is_allowed;
+use crate::answering::period_answer;
+use crate::answers::Answer;
+use crate::answers::is_accepted;
+use crate::entries::Entry;
+use crate::periods::fresh_period;
+use crate::periods::is_leaving;
+use crate::places::has_earlier_arrears;
+use crate::places::place;
+use crate::places::with_period;
+use crate::places::without_period;
+use crate::words::put_words;
+use exact::PLACES;
+use exact::total;
+
+// The answer to an entry, the rounds of a settlement, and the book that it leaves.
+pub struct Applied {
+    pub answer: Answer,
+    pub rounds: u64,
+    pub book: Book,
+}
+
+fn period_of(e: Entry) -> u32
+    ensures { λ r. ⌜ r ≡ periodOf e ⌝ }
+{
+    match e {
+        Entry::Open { period } => period,
+        Entry::Energy {
+            period,
+            participant: _,
+            side: _,
+            quantity: _,
+            price: _,
+        } => period,
+        Entry::Amount {
+            period,
+            participant: _,
+            side: _,
+            tier: _,
+            cents: _,
+        } => period,
+        Entry::Notice { period } => period,
+        Entry::Receipt {
+            period,
+            participant: _,
+            cents: _,
+        } => period,
+        Entry::Settle { period } => period,
+    }
+}
+
+fn is_open(e: Entry) -> bool
+    ensures { λ r. ⌜ r ≡ isOpen e ⌝ }
+{
+    match e {
+        Entry::Open { period: _ } => true,
+        Entry::Energy {
+            period: _,
+            participant: _,
+            side: _,
+            quantity: _,
+            price: _,
+        } => false,
+        Entry::Amount {
+            period: _,
+            participant: _,
+            side: _,
+            tier: _,
+            cents: _,
+        } => false,
+        Entry::Notice { period: _ } => false,
+        Entry::Receipt {
+            period: _,
+            participant: _,
+            cents: _,
+        } => false,
+        Entry::Settle { period: _ } => false,
+    }
+}
+
+fn receipt_cents(e: Entry) -> u64
+    ensures { λ r. ⌜ r ≡ receiptCents e ⌝ }
+{
+    match e {
+        Entry::Open { period: _ } => 0,
+        Entry::Energy {
+            period: _,
+            participant: _,
+            side: _,
+            quantity: _,
+            price: _,
+        } => 0,
+        Entry::Amount {
+            period: _,
+            participant: _,
+            side: _,
+            tier: _,
+            cents: _,
+        } => 0,
+        Entry::Notice { period: _ } => 0,
+        Entry::Receipt {
+            period: _,
+            participant: _,
+            cents,
+        } => cents,
+        Entry::Settle { period: _ } => 0,
+    }
+}
+
+// Whether another period refuses the entry (14).
+fn is_barred(b: Book, e: Entry) -> bool
+    requires { ⌜ Valid b × (allowed e ≡ true) ⌝ }
+    ensures { λ r. ⌜ r ≡ barring e (view b .periods) ⌝ }
+{
+    match e {
+        Entry::Receipt {
+            period,
+            participant,
+            cents: _,
+        } => has_earlier_arrears(b, participant as usize, period),
+        Entry::Open { period: _ } => false,
+        Entry::Energy {
+            period: _,
+            participant: _,
+            side: _,
+            quantity: _,
+            price: _,
+        } => false,
+        Entry::Amount {
+            period: _,
+            participant: _,
+            side: _,
+            tier: _,
+            cents: _,
+        } => false,
+        Entry::Notice { period: _ } => false,
+        Entry::Settle { period: _ } => false,
+    }
+}
+
+fn refused(answer: Answer, book: Book) -> Applied
+    ensures { λ r. ⌜ r ≡ record { answer = answer; rounds = 0; book = book } ⌝ }
+{
+    Applied {
+        answer: answer,
+        rounds: 0,
+        book: book,
+    }
+}
+
+// Opens a period; 4, 5 and 3 are passed.
+fn open_period(b: Book, e: Entry, words: &mut [u64]) -> Applied
+    requires { ⌜ Valid b × Entered (view b) (record { entry = e; words = now words }) × (isOpen e ≡ true) ⌝ }
+    ensures { λ r. ⌜ replied r (now (words .exit)) ≡ reply b (record { entry = e; words = now (words .entry) }) ⌝ }
+{
+    let k = period_of(e);
+    if k <= b.highest {
+        return refused(Answer::NotAbove, b);
+    }
+    if PERIODS <= b.count {
+        return refused(Answer::Full, b);
+    }
+    put_words(words, b.n, [0; PLACES]);
+    let p = fresh_period(k);
+    let next = with_period(b, p);
+    Applied {
+        answer: Answer::Accepted,
+        rounds: 0,
+        book: next,
+    }
+}
+
+// Changes the period that the entry names; 4, 5 and 3 are passed.
+fn change_named(mut b: Book, e: Entry, words: &mut [u64]) -> Applied
+    requires { ⌜ Valid b × Entered (view b) (record { entry = e; words = now words }) × (isOpen e ≡ false) ⌝ }
+    ensures { λ r. ⌜ replied r (now (words .exit)) ≡ reply b (record { entry = e; words = now (words .entry) }) ⌝ }
+{
+    let n = b.n;
+    let j = place(b, period_of(e));
+    if b.count <= j {
+        return refused(Answer::NotInBook, b);
+    }
+    let p = b.periods[j];
+    let a = period_answer(p, n, e, is_barred(b, e));
+    if !is_accepted(a) {
+        return refused(a, b);
+    }
+    let c = change_period(p, n, e);
+    let pays = c.pays;
+    put_words(words, n, pays);
+    let held = b.held + receipt_cents(e) - total(pays, n);
+    let q = c.period;
+    if is_leaving(q, n) {
+        let next = without_period(b, j, held);
+        return Applied {
+            answer: Answer::Accepted,
+            rounds: c.rounds,
+            book: next,
+        };
+    }
+    b.held = held;
+    b.periods[j] = q;
+    Applied {
+        answer: Answer::Accepted,
+        rounds: c.rounds,
+        book: b,
+    }
+}
+
+// Applies an entry of any field values, with any number of payout words.
+pub fn apply(b: Book, e: Entry, words: &mut [u64]) -> Applied
+    requires { ⌜ Valid b ⌝ }
+    ensures { λ r. ⌜ replied r (now (words .exit)) ≡ reply b (record { entry = e; words = now (words .entry) }) ⌝ }
+{
+    if b.n == 0 {
+        return refused(Answer::NoParticipants, b);
+    }
+    if words.len() < b.n {
+        return refused(Answer::FewWords, b);
+    }
+    if !is_allowed(e) {
+        return refused(Answer::Outside, b);
+    }
+    if is_open(e) {
+        return open_period(b, e, words);
+    }
+    change_named(b, e, words)
+}

@@ -1,0 +1,132 @@
+// The places of a book: the only functions that know how many there are.
+ghost use mathlib.Core.Path.{_≡_};
+ghost use Prim.Native.Nat.{_≤_, _<_};
+ghost use mathlib.Core.List.{[], _∷_};
+ghost use lib.ListN.{length};
+ghost use Rattle.exact.specs.Rows.{places};
+ghost use Rattle.book.specs.Answers.{numberOf};
+ghost use Rattle.book.specs.State.{view, pack, made, find, heldIn, earlierArrears, removed, added, centsHeld, mostPeriods};
+ghost use Rattle.book.specs.Valid.{Valid};
+use crate::Book;
+use crate::PERIODS;
+use crate::Period;
+use crate::answers::Answer;
+use crate::periods::fresh_period;
+use crate::periods::has_arrears_before;
+use exact::PLACES;
+
+// A book that was made, or refused.
+pub struct Made {
+    pub answer: Answer,
+    pub book: Book,
+}
+
+// A book without periods.
+fn empty_book(n: usize) -> Book
+    ensures { λ r. ⌜ r ≡ pack (record { n = n; highest = 0; periods = [] }) ⌝ }
+{
+    let free = fresh_period(0);
+    Book {
+        n: n,
+        highest: 0,
+        count: 0,
+        held: 0,
+        periods: [free; PERIODS],
+    }
+}
+
+// A book for n participants, or one of none where n is refused.
+pub fn new(n: usize) -> Made
+    ensures { λ r. ⌜ (numberOf (r .answer) ≡ made (record { n = n }) .answer) × (r .book ≡ pack (made (record { n = n }) .state)) ⌝ }
+{
+    if n == 0 {
+        let b = empty_book(0);
+        return Made {
+            answer: Answer::NoParticipants,
+            book: b,
+        };
+    }
+    if PLACES < n {
+        let b = empty_book(0);
+        return Made {
+            answer: Answer::NoParticipants,
+            book: b,
+        };
+    }
+    let b = empty_book(n);
+    Made {
+        answer: Answer::Accepted,
+        book: b,
+    }
+}
+
+// The cents that the book holds.
+pub fn held(b: Book) -> u64
+    ensures { λ r. ⌜ r ≡ centsHeld b ⌝ }
+{
+    b.held
+}
+
+// Where a period stands, or the count.
+pub fn place(b: Book, number: u32) -> usize
+    requires { ⌜ Valid b ⌝ }
+    ensures { λ r. ⌜ r ≡ find number (view b .periods) ⌝ }
+{
+    let count = b.count;
+    for k in 0..count {
+        let p = b.periods[k];
+        if p.number == number {
+            return k;
+        }
+    }
+    count
+}
+
+// Whether an earlier settled period has arrears of i.
+pub fn has_earlier_arrears(b: Book, i: usize, number: u32) -> bool
+    requires { ⌜ Valid b × (i < places) ⌝ }
+    ensures { λ r. ⌜ r ≡ earlierArrears i number (view b .periods) ⌝ }
+{
+    for k in 0..b.count {
+        let p = b.periods[k];
+        if has_arrears_before(p, i, number) {
+            return true;
+        }
+    }
+    false
+}
+
+// One more period, the last, of the highest number.
+pub fn with_period(b: Book, p: Period) -> Book
+    requires { ⌜ Valid b × (length (view b .periods) < mostPeriods) × (heldIn (b .n) (p ∷ []) ≡ 0) ⌝ }
+    ensures { λ r. ⌜ r ≡ pack (added (view b) p) ⌝ }
+{
+    let at = b.count;
+    let mut c = b;
+    c.highest = p.number;
+    c.count = at + 1;
+    c.periods[at] = p;
+    c
+}
+
+// A period leaves: the later ones move down, and the last place is not in use.
+pub fn without_period(b: Book, j: usize, held: u64) -> Book
+    requires { ⌜ Valid b × (j < length (view b .periods)) × (held ≡ heldIn (b .n) (removed (view b) j .periods)) ⌝ }
+    ensures { λ r. ⌜ r ≡ pack (removed (view b) j) ⌝ }
+{
+    let mut ps = b.periods;
+    let last = b.count - 1;
+    for k in j..last {
+        let p = ps[k + 1];
+        ps[k] = p;
+    }
+    let blank = fresh_period(0);
+    ps[last] = blank;
+    Book {
+        n: b.n,
+        highest: b.highest,
+        count: last,
+        held: held,
+        periods: ps,
+    }
+}
