@@ -1,0 +1,2 @@
+mod SliceLaws
+mod OrderLaws

@@ -1,0 +1,60 @@
+use Prim.Native.Nat.{min}
+use mathlib.Core.Path.{_≡_, refl, sym, _∙_}
+use mathlib.Core.Bool.{true, false}
+use native.Mathlib.Omega.{arith}
+use lib.ListN.{length}
+use borrow.Author.Tests.{not-true, not-false}
+use Rattle.exports.specs.Slices.{left}
+use Rattle.exports.specs.Orders.{tiersInOrder, TiersSound}
+use Rattle.exports.proofs.OrderLaws.{Fitting, tiers-fitting}
+use borrow.Author.Needs.{needs}
+use Rattle.exports.proofs.clearing_late.Statement.{statement}
+use Rattle.exports.proofs.clearing_late.Tie as tie
+
+shorter-requires : tie.Need-shorter-requires
+shorter-requires c κs = search needs
+
+shorter-requires-2 : tie.Need-shorter-requires-2
+shorter-requires-2 c κs = search needs
+
+tiers-in-order-requires : tie.Need-tiers-in-order-requires
+tiers-in-order-requires c κs = search needs
+
+-- the arguments are in order where the test is passed
+passed : (c : tie.Else1) → let a = c .before .before .before .before .before .before .before .before .args in tiersInOrder (a .n) (a .to .now) (min (length (a .claims .now)) (min (length (a .paid .now)) (length (a .pays .now)))) ≡ true
+passed c = not-false _ (rw (c .before .tiers-in-order .ensures, c .before .before .shorter2 .ensures, c .before .before .before .shorter .ensures) at (c .if1 .left))
+
+known : (c : tie.Else1) → let a = c .before .before .before .before .before .before .before .before .args in Fitting (TiersSound (a .n) (a .to .now)) (min (length (a .claims .now)) (min (length (a .paid .now)) (length (a .pays .now))))
+known c = tiers-fitting _ _ _ (passed c)
+
+returns : tie.Need-returns
+unfolding left
+returns c = (sym (not-true _ (rw (c .before .tiers-in-order .ensures, c .before .before .shorter2 .ensures, c .before .before .before .shorter .ensures) at (c .if1 .taken))), refl)
+
+late-of-requires : tie.Need-late-of-requires
+late-of-requires c κs = let f = known c in (f .sound, omega (arith, f .roomy), omega (arith, f .roomy))
+
+put-row-requires : tie.Need-put-row-requires
+put-row-requires c κs = omega (arith, known (c .before .before) .roomy)
+
+same-length : tie.Need-same-length
+same-length c = search needs
+
+returns-2 : tie.Need-returns-2
+unfolding left
+returns-2 c =
+    let s = c .before .before .before .before in
+    (sym (passed (s .before)), c .before .before .put-row .ensures ∙ rw (s .late-of .ensures) refl)
+
+pub clearing-late-spec : {M : Type 1} → statement M
+clearing-late-spec =
+    tie.close
+    (tie.spec
+    shorter-requires
+    shorter-requires-2
+    tiers-in-order-requires
+    returns
+    late-of-requires
+    put-row-requires
+    same-length
+    returns-2)

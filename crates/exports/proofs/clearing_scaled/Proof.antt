@@ -1,0 +1,81 @@
+use Prim.Native.Nat.{min}
+use mathlib.Core.Path.{_≡_, refl, sym, _∙_}
+use mathlib.Core.Bool.{true, false}
+use native.Mathlib.Omega.{arith}
+use lib.ListN.{length}
+use borrow.Author.Tests.{not-true, not-false}
+use Rattle.exports.specs.Slices.{left}
+use Rattle.exports.specs.Orders.{settlementInOrder, Sound}
+use Rattle.exports.proofs.OrderLaws.{Fitting, fitting}
+use borrow.Author.Needs.{needs}
+use Rattle.exports.proofs.clearing_scaled.Statement.{statement}
+use Rattle.exports.proofs.clearing_scaled.Tie as tie
+
+shorter-requires : tie.Need-shorter-requires
+shorter-requires c κs = search needs
+
+shorter-requires-2 : tie.Need-shorter-requires-2
+shorter-requires-2 c κs = search needs
+
+shorter-requires-3 : tie.Need-shorter-requires-3
+shorter-requires-3 c κs = search needs
+
+in-order-requires : tie.Need-in-order-requires
+in-order-requires c κs = search needs
+
+-- the arguments are in order where the test is passed
+passed : (c : tie.Else1) → let a = c .before .before .before .before .before .before .before .before .before .before .before .args in settlementInOrder (a .n) (a .by .now) (a .to .now) (a .received .now) (a .revised .now) (a .above .now) (a .below .now) ≡ true
+passed c = not-false _ (rw (c .before .in-order .ensures, c .before .before .shorter3 .ensures, c .before .before .before .shorter2 .ensures, c .before .before .before .before .shorter .ensures) at (c .if1 .left))
+
+known : (c : tie.Else1) → let a = c .before .before .before .before .before .before .before .before .before .before .before .args in Fitting (Sound (a .n) (a .by .now) (a .to .now)) (min (length (a .received .now)) (min (length (a .revised .now)) (min (length (a .above .now)) (length (a .below .now)))))
+known c = fitting _ _ _ _ (passed c)
+
+returns : tie.Need-returns
+unfolding left
+returns c = (sym (not-true _ (rw (c .before .in-order .ensures, c .before .before .shorter3 .ensures, c .before .before .before .shorter2 .ensures, c .before .before .before .before .shorter .ensures) at (c .if1 .taken))), (refl, (refl, refl)))
+
+scaled-of-requires : tie.Need-scaled-of-requires
+scaled-of-requires c κs = (known c .sound, omega (arith, known c .roomy))
+
+put-row-requires : tie.Need-put-row-requires
+put-row-requires c κs = omega (arith, known (c .before .before .before .before .before) .roomy)
+
+put-row-requires-2 : tie.Need-put-row-requires-2
+put-row-requires-2 c κs = omega (arith, known (c .before .before .before .before .before .before .before .before .before) .roomy)
+
+put-row-requires-3 : tie.Need-put-row-requires-3
+put-row-requires-3 c κs = omega (arith, known (c .before .before .before .before .before .before .before .before .before .before .before .before .before) .roomy)
+
+same-length : tie.Need-same-length
+same-length c = search needs
+
+same-length-2 : tie.Need-same-length-2
+same-length-2 c = search needs
+
+same-length-3 : tie.Need-same-length-3
+same-length-3 c = search needs
+
+returns-2 : tie.Need-returns-2
+unfolding left
+returns-2 c =
+    let s = c .before .before .before .before .before .before .before .before .before .before .before .before .before .before .before in
+    let e = passed (s .before) in
+    (sym e, (c .before .before .before .before .before .before .before .before .before .before .put-row .ensures ∙ rw (s .scaled-of .ensures) refl, (c .before .before .before .before .before .before .put-row2 .ensures ∙ rw (s .scaled-of .ensures) refl, c .before .before .put-row3 .ensures ∙ rw (s .scaled-of .ensures) refl)))
+
+pub clearing-scaled-spec : {M : Type 1} → statement M
+clearing-scaled-spec =
+    tie.close
+    (tie.spec
+    shorter-requires
+    shorter-requires-2
+    shorter-requires-3
+    in-order-requires
+    returns
+    scaled-of-requires
+    put-row-requires
+    put-row-requires-2
+    put-row-requires-3
+    same-length
+    same-length-2
+    same-length-3
+    returns-2)

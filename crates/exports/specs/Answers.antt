@@ -1,0 +1,24 @@
+-- What settlement reckons of the month in slices.
+use Prim.Native.Nat.{ℕ}
+use mathlib.Core.List.{List}
+use Rattle.settlement.specs.Notice.{retention, noticed}
+use Rattle.settlement.specs.Settling.{scaledAmounts, settled}
+use Rattle.settlement.specs.declared.noticing.Noticed.{Noticed}
+use Rattle.settlement.specs.declared.scaling.Scaled.{Scaled}
+use Rattle.settlement.specs.declared.settling.Settled.{Settled}
+use Rattle.exports.specs.Slices.{rowOf, monthOf}
+
+-- the answer of a settlement to arguments that are not in order: more rounds than 64 participants can have
+abbrev pub refused : ℕ
+refused = 65
+
+module _ (n : ℕ) (by to : List ℕ) where
+  abbrev pub noticeOf : Noticed
+  noticeOf = noticed (monthOf n by to)
+
+  module _ (received : List ℕ) where
+    abbrev pub scaledOf : Scaled
+    scaledOf = scaledAmounts (monthOf n by to) (retention (monthOf n by to)) (rowOf received)
+
+    abbrev pub settledOf : Settled
+    settledOf = settled (monthOf n by to) (retention (monthOf n by to)) (rowOf received)

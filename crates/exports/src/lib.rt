@@ -1,0 +1,138 @@
+// C exports over slices: notice, scaled amounts, settlement and late money of one month.
+mod months;
+mod orders;
+mod slices;
+
+use months::late_of;
+use months::notice_of;
+use months::scaled_of;
+use months::settled_of;
+use orders::in_order;
+use orders::tiers_in_order;
+use slices::put_row;
+use slices::shorter;
+ghost use mathlib.Core.Path.{_≡_};
+ghost use mathlib.Core.Bool.{cond};
+ghost use Prim.Native.Nat.{min};
+ghost use lib.Dec.{leb};
+ghost use lib.ListN.{length};
+ghost use Rattle.exact.specs.Rows.{places, cells};
+ghost use Rattle.settlement.specs.Month.{tierAt};
+ghost use Rattle.settlement.specs.Late.{latePayment};
+ghost use Rattle.exports.specs.Slices.{front, rowOf, tierPlaces, left};
+ghost use Rattle.exports.specs.Orders.{tiersInOrder, inOrder, settlementInOrder};
+ghost use Rattle.exports.specs.Answers.{noticeOf, scaledOf, settledOf, refused};
+
+// More rounds than any settlement runs: the answer to arguments that are not in order.
+const REFUSED: u64 = 65;
+
+// Writes the retention and payable amounts of a month, and says whether the arguments were in order. If not, nothing is written.
+#[no_mangle]
+pub extern "C" fn clearing_notice(
+    by: &[u64],
+    to: &[u64],
+    n: usize,
+    retention: &mut [u64],
+    payable: &mut [u64],
+) -> bool
+    ensures { λ r. ⌜ r ≡ inOrder n (now (by .entry)) (now (to .entry)) (min (length (now (retention .entry))) (length (now (payable .entry)))) ⌝ }
+    ensures { λ r. ⌜ now (retention .exit) ≡ left r (noticeOf n (now (by .entry)) (now (to .entry)) .retention) (now (retention .entry)) ⌝ }
+    ensures { λ r. ⌜ now (payable .exit) ≡ left r (noticeOf n (now (by .entry)) (now (to .entry)) .payable) (now (payable .entry)) ⌝ }
+{
+    let room = shorter(retention.len(), payable.len());
+    if !in_order(by, to, n, room) {
+        return false;
+    }
+    let noticed = notice_of(by, to, n);
+    let retention_row = noticed.retention;
+    let payable_row = noticed.payable;
+    put_row(retention, retention_row);
+    put_row(payable, payable_row);
+    true
+}
+
+// Writes the revised amounts of a month's settlement, and the scaled ones above 0 and, sign turned, below it, and says whether the
+// arguments were in order. If not, nothing is written.
+#[no_mangle]
+pub extern "C" fn clearing_scaled(
+    by: &[u64],
+    to: &[u64],
+    received: &[u64],
+    n: usize,
+    revised: &mut [u64],
+    above: &mut [u64],
+    below: &mut [u64],
+) -> bool
+    ensures { λ r. ⌜ r ≡ settlementInOrder n (now (by .entry)) (now (to .entry)) (now (received .entry)) (now (revised .entry)) (now (above .entry)) (now (below .entry)) ⌝ }
+    ensures { λ r. ⌜ now (revised .exit) ≡ left r (scaledOf n (now (by .entry)) (now (to .entry)) (now (received .entry)) .revised) (now (revised .entry)) ⌝ }
+    ensures { λ r. ⌜ now (above .exit) ≡ left r (scaledOf n (now (by .entry)) (now (to .entry)) (now (received .entry)) .above) (now (above .entry)) ⌝ }
+    ensures { λ r. ⌜ now (below .exit) ≡ left r (scaledOf n (now (by .entry)) (now (to .entry)) (now (received .entry)) .below) (now (below .entry)) ⌝ }
+{
+    let outs = shorter(revised.len(), shorter(above.len(), below.len()));
+    let room = shorter(received.len(), outs);
+    if !in_order(by, to, n, room) {
+        return false;
+    }
+    let scaled = scaled_of(by, to, received, n);
+    let revised_row = scaled.revised;
+    let above_row = scaled.above;
+    let below_row = scaled.below;
+    put_row(revised, revised_row);
+    put_row(above, above_row);
+    put_row(below, below_row);
+    true
+}
+
+// Writes what a month's settlement pays, its claims and its arrears, and answers the rounds that ran, or 65 where the arguments are
+// not in order. Then nothing is written.
+#[no_mangle]
+pub extern "C" fn clearing_settle(
+    by: &[u64],
+    to: &[u64],
+    received: &[u64],
+    n: usize,
+    paid: &mut [u64],
+    claims: &mut [u64],
+    arrears: &mut [u64],
+) -> u64
+    ensures { λ r. ⌜ r ≡ cond (settlementInOrder n (now (by .entry)) (now (to .entry)) (now (received .entry)) (now (paid .entry)) (now (claims .entry)) (now (arrears .entry))) (settledOf n (now (by .entry)) (now (to .entry)) (now (received .entry)) .rounds) refused ⌝ }
+    ensures { λ r. ⌜ now (paid .exit) ≡ left (leb r places) (settledOf n (now (by .entry)) (now (to .entry)) (now (received .entry)) .paid) (now (paid .entry)) ⌝ }
+    ensures { λ r. ⌜ now (claims .exit) ≡ left (leb r places) (settledOf n (now (by .entry)) (now (to .entry)) (now (received .entry)) .claims) (now (claims .entry)) ⌝ }
+    ensures { λ r. ⌜ now (arrears .exit) ≡ left (leb r places) (settledOf n (now (by .entry)) (now (to .entry)) (now (received .entry)) .arrears) (now (arrears .entry)) ⌝ }
+{
+    let outs = shorter(paid.len(), shorter(claims.len(), arrears.len()));
+    let room = shorter(received.len(), outs);
+    if !in_order(by, to, n, room) {
+        return REFUSED;
+    }
+    let settled = settled_of(by, to, received, n);
+    let paid_row = settled.paid;
+    let claims_row = settled.claims;
+    let arrears_row = settled.arrears;
+    put_row(paid, paid_row);
+    put_row(claims, claims_row);
+    put_row(arrears, arrears_row);
+    settled.rounds
+}
+
+// Writes what late money pays each claim of which some was paid, and says whether the arguments were in order. If not, nothing is written.
+#[no_mangle]
+pub extern "C" fn clearing_late(
+    to: &[u64],
+    claims: &[u64],
+    paid: &[u64],
+    money: u64,
+    n: usize,
+    pays: &mut [u64],
+) -> bool
+    ensures { λ r. ⌜ r ≡ tiersInOrder n (now (to .entry)) (min (length (now (claims .entry))) (min (length (now (paid .entry))) (length (now (pays .entry))))) ⌝ }
+    ensures { λ r. ⌜ now (pays .exit) ≡ left r (cells (latePayment (tierAt (front tierPlaces (now (to .entry)))) (rowOf (now (claims .entry))) (rowOf (now (paid .entry))) n money) n) (now (pays .entry)) ⌝ }
+{
+    let room = shorter(claims.len(), shorter(paid.len(), pays.len()));
+    if !tiers_in_order(to, n, room) {
+        return false;
+    }
+    let pays_row = late_of(to, claims, paid, money, n);
+    put_row(pays, pays_row);
+    true
+}

@@ -1,0 +1,35 @@
+// Whether arguments are in order.
+use crate::slices::within;
+use exact::PLACES;
+use settlement::TIERS;
+ghost use mathlib.Core.Path.{_≡_};
+ghost use Rattle.exports.specs.Orders.{tiersInOrder, inOrder};
+
+// Whether n participants and the cents owing to them by tiers are in order, and the shortest slice of a row has room.
+pub fn tiers_in_order(to: &[u64], n: usize, room: usize) -> bool
+    ensures { λ r. ⌜ r ≡ tiersInOrder n (now (to .entry)) room ⌝ }
+{
+    if room < PLACES {
+        return false;
+    }
+    if PLACES < n {
+        return false;
+    }
+    if to.len() < TIERS * PLACES {
+        return false;
+    }
+    within(to, TIERS * n)
+}
+
+// The same with the cents owing by them.
+pub fn in_order(by: &[u64], to: &[u64], n: usize, room: usize) -> bool
+    ensures { λ r. ⌜ r ≡ inOrder n (now (by .entry)) (now (to .entry)) room ⌝ }
+{
+    if !tiers_in_order(to, n, room) {
+        return false;
+    }
+    if by.len() < PLACES {
+        return false;
+    }
+    within(by, n)
+}

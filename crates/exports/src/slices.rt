@@ -1,0 +1,71 @@
+// Slices that a caller lends: their first cells taken into arrays, arrays put back, and their totals held to a side's limit.
+use exact::PLACES;
+use exact::Row;
+use settlement::TIERS;
+use settlement::TierCells;
+ghost use mathlib.Core.Path.{_≡_};
+ghost use Prim.Native.Nat.{_≤_, min};
+ghost use lib.Dec.{leb};
+ghost use lib.ListN.{length};
+ghost use Rattle.exact.specs.Rows.{places, at, sum};
+ghost use Rattle.settlement.specs.Month.{sideLimit};
+ghost use Rattle.exports.specs.Slices.{tierPlaces, front, written};
+
+// Each side's total over a period is at most this many cents (01, The month's sums).
+const SIDE_LIMIT: u64 = 10_000_000_000_000;
+
+// The smaller of two lengths.
+pub fn shorter(a: usize, b: usize) -> usize
+    ensures { λ r. ⌜ r ≡ min a b ⌝ }
+{
+    if a < b { a } else { b }
+}
+
+// Whether the first cells, so many, come to at most a side's limit.
+pub fn within(s: &[u64], count: usize) -> bool
+    requires { ⌜ count ≤ length (now s) ⌝ }
+    ensures { λ r. ⌜ r ≡ leb (sum (at (now (s .entry))) count) sideLimit ⌝ }
+{
+    let mut room = SIDE_LIMIT;
+    for i in 0..count {
+        if room < s[i] {
+            return false;
+        }
+        room -= s[i];
+    }
+    true
+}
+
+// The first 64 cells.
+pub fn row_of(s: &[u64]) -> Row
+    requires { ⌜ places ≤ length (now s) ⌝ }
+    ensures { λ r. ⌜ r ≡ front places (now (s .entry)) ⌝ }
+{
+    let mut out = [0u64; PLACES];
+    for i in 0..PLACES {
+        out[i] = s[i];
+    }
+    out
+}
+
+// The first 320 cells.
+pub fn tier_cells_of(s: &[u64]) -> TierCells
+    requires { ⌜ tierPlaces ≤ length (now s) ⌝ }
+    ensures { λ r. ⌜ r ≡ front tierPlaces (now (s .entry)) ⌝ }
+{
+    let mut out = [0u64; TIERS * PLACES];
+    for i in 0..TIERS * PLACES {
+        out[i] = s[i];
+    }
+    out
+}
+
+// Puts a row into the first 64 cells.
+pub fn put_row(out: &mut [u64], row: Row)
+    requires { ⌜ places ≤ length (now out) ⌝ }
+    ensures { λ _. ⌜ now (out .exit) ≡ written row (now (out .entry)) ⌝ }
+{
+    for i in 0..PLACES {
+        out[i] = row[i];
+    }
+}

@@ -1,0 +1,39 @@
+use mathlib.Core.Path.{sym, subst}
+use Rattle.book.specs.Valid.{Valid}
+use Rattle.book.proofs.ValidLaws.{stays-valid}
+use borrow.Author.Needs.{needs}
+use Rattle.trial.proofs.calling.make.Statement.{statement}
+use Rattle.trial.proofs.calling.make.Tie as tie
+
+number-at-requires : tie.Need-number-at-requires
+number-at-requires c κs = search needs
+
+new-requires : tie.Need-new-requires
+new-requires c κs = search needs
+
+number-requires : tie.Need-number-requires
+number-requires c κs = search needs
+
+array-write-numbers : tie.Need-array-write-numbers
+array-write-numbers c = search needs
+
+slice-aggregate-put-line : tie.Need-slice-aggregate-put-line
+slice-aggregate-put-line c = search needs
+
+put-line-requires : tie.Need-put-line-requires
+put-line-requires c κs = search needs
+
+returns : tie.Need-returns
+returns c = (subst Valid (sym (c .before .before .before .before .before .before .new .ensures .1)) (stays-valid .first _), search needs)
+
+pub make-spec : {M : Type 1} → statement M
+make-spec =
+    tie.close
+    (tie.spec
+    number-at-requires
+    new-requires
+    number-requires
+    array-write-numbers
+    slice-aggregate-put-line
+    put-line-requires
+    returns)

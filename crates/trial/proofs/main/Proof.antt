@@ -1,0 +1,18 @@
+use mathlib.Core.Path.{sym, subst}
+use borrow.Author.Needs.{needs}
+use Rattle.book.specs.Valid.{Valid}
+use Rattle.book.proofs.ValidLaws.{stays-valid}
+use Rattle.trial.proofs.main.Statement.{statement}
+use Rattle.trial.proofs.main.Tie as tie
+
+new-requires : tie.Need-new-requires
+new-requires c κs = search needs
+
+call-all-requires : tie.Need-call-all-requires
+call-all-requires c κs = subst Valid (sym (c .before .before .before .new .ensures .1)) (stays-valid .first _)
+
+returns : tie.Need-returns
+returns c = search needs
+
+pub main-spec : {M : Type 1} → statement M
+main-spec = tie.close (tie.spec new-requires call-all-requires returns)

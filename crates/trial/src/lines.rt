@@ -1,0 +1,108 @@
+// The lines that are printed: a name, and numbers.
+ghost use Prim.Native.Nat.{_+_, _*_, _≤_};
+ghost use lib.ListN.{length};
+ghost use Rattle.text.specs.Numbers.{numberRoom};
+use book::Entry;
+use text::put_bytes;
+use text::put_number;
+
+const SPACE: u8 = 32;
+
+const NEWLINE: u8 = 10;
+
+// The byte after a number: a line end after the last.
+fn after(passed: usize, count: usize) -> u8 {
+    if passed < count { SPACE } else { NEWLINE }
+}
+
+// The most numbers of a line: three, and the words lent to an entry.
+pub const NUMBERS: usize = 258;
+
+// Puts a name and the first numbers as a line.
+pub fn put_line(
+    out: &mut [u8],
+    place: usize,
+    name: &[u8],
+    numbers: &[u64; NUMBERS],
+    count: usize,
+) -> usize
+    requires { ⌜ (count ≤ 258) × (place + length (now name) + count * numberRoom ≤ length (now out)) ⌝ }
+    ensures { λ r. ⌜ r ≤ place + length (now (name .entry)) + count * numberRoom ⌝ }
+{
+    let mut next = put_bytes(out, place, name);
+    for i in 0..count {
+        next = put_number(out, next, numbers[i], after(i + 1, count));
+    }
+    next
+}
+
+// The most fields of an entry.
+pub const MOST_FIELDS: usize = 5;
+
+// An entry as numbers: the kind, and its fields in the layout's order.
+pub struct Layout {
+    pub kind: u64,
+    pub count: usize,
+    pub fields: [u64; MOST_FIELDS],
+}
+
+pub fn layout_of(e: Entry) -> Layout
+    ensures { λ r. ⌜ r .count ≤ 5 ⌝ }
+{
+    match e {
+        Entry::Open { period } => period_alone(1, period),
+        Entry::Energy {
+            period,
+            participant,
+            side,
+            quantity,
+            price,
+        } => five(2, period, participant, side, quantity as u64, price as u64),
+        Entry::Amount {
+            period,
+            participant,
+            side,
+            tier,
+            cents,
+        } => five(3, period, participant, side, tier as u64, cents),
+        Entry::Notice { period } => period_alone(4, period),
+        Entry::Receipt {
+            period,
+            participant,
+            cents,
+        } => Layout {
+            kind: 5,
+            count: 3,
+            fields: [period as u64, participant as u64, cents, 0, 0],
+        },
+        Entry::Settle { period } => period_alone(6, period),
+    }
+}
+
+// The layout of a kind whose only field is its period.
+fn period_alone(kind: u64, period: u32) -> Layout
+    ensures { λ r. ⌜ r .count ≤ 5 ⌝ }
+{
+    Layout {
+        kind: kind,
+        count: 1,
+        fields: [period as u64, 0, 0, 0, 0],
+    }
+}
+
+// The layout of a kind with five fields.
+fn five(kind: u64, period: u32, participant: u8, side: u8, fourth: u64, fifth: u64) -> Layout
+    ensures { λ r. ⌜ r .count ≤ 5 ⌝ }
+{
+    Layout {
+        kind: kind,
+        count: 5,
+        fields: [
+            period as u64,
+            participant as u64,
+            side as u64,
+            fourth,
+            fifth,
+        ],
+    }
+}
