@@ -1,0 +1,223 @@
+//! Proposes the next entry for a book, aiming by a copy of it: mostly entries
+//! that fit the book as it stands, so that many months come to settlement.
+
+use crate::book::{Book, Period, Stage, MOST_PERIODS, MOST_TOTAL};
+use crate::codec::{Entry, MOST_PRICE, MOST_QUANTITY};
+use crate::random::Random;
+use std::collections::BTreeSet;
+
+/// How large the amounts are.
+#[derive(Clone, Copy, Debug, PartialEq, Eq)]
+pub enum Scale {
+    /// 1 to 12 cents, so that rounding matters.
+    Few,
+    /// 1 to 300 cents.
+    Hundreds,
+    /// Up to 1,000,000,000 cents.
+    Millions,
+    /// About the bound of a side's total.
+    Bound,
+}
+
+/// In what manner entries are proposed.
+#[derive(Clone, Copy, Debug)]
+pub struct Manner {
+    pub scale: Scale,
+    /// So many of 100 proposals are meant to be refused.
+    pub wrong: u64,
+    /// How many periods the book should have at once.
+    pub periods: usize,
+    /// About how many amounts a month has before its sides are made equal.
+    pub amounts: u64,
+    /// The most that a new period is above the highest.
+    pub step: u64,
+}
+
+pub struct Aim {
+    pub random: Random,
+    pub book: Book,
+    pub manner: Manner,
+    /// Periods whose sides are being made equal.
+    closing: BTreeSet<u32>,
+}
+
+impl Aim {
+    pub fn new(random: Random, n: u64, manner: Manner) -> Aim {
+        Aim { random, book: Book::make(n).0, manner, closing: BTreeSet::new() }
+    }
+
+    /// The next entry; the book is not changed.
+    pub fn propose(&mut self) -> Entry {
+        if self.book.n == 0 || self.random.chance(self.manner.wrong, 100) {
+            self.wrong_entry()
+        } else {
+            self.fitting_entry()
+        }
+    }
+
+    fn fitting_entry(&mut self) -> Entry {
+        let count = self.book.periods.len();
+        let haste = if self.manner.periods == MOST_PERIODS { 2 } else { 5 };
+        let wanted = count < self.manner.periods && self.random.chance(1, haste);
+        if count == 0 || wanted {
+            return self.opening();
+        }
+        let number = self.any_period();
+        match self.book.periods[&number].stage {
+            Stage::BeforeNotice => self.before_notice(number),
+            Stage::Noticed(_) => self.after_notice(number),
+            Stage::Settled { .. } => self.after_settlement(number),
+        }
+    }
+
+    pub fn opening(&mut self) -> Entry {
+        let step = self.random.between(1, self.manner.step);
+        let period = u64::from(self.book.highest) + step;
+        Entry::open(u32::try_from(period).unwrap_or(u32::MAX))
+    }
+
+    /// A period in the book; there must be one.
+    pub fn any_period(&mut self) -> u32 {
+        let numbers: Vec<u32> = self.book.periods.keys().copied().collect();
+        self.random.pick(&numbers)
+    }
+
+    pub fn any_participant(&mut self) -> u8 {
+        self.random.below(self.book.n.max(1) as u64) as u8
+    }
+
+    fn before_notice(&mut self, number: u32) -> Entry {
+        if self.closing.contains(&number) {
+            return self.close(number);
+        }
+        let sums = &self.book.periods[&number].sums;
+        let full = sums.total(0).max(sums.total(1)) == MOST_TOTAL;
+        let amounts = if full { 3 } else { self.manner.amounts };
+        if self.random.chance(1, amounts + 1) {
+            self.closing.insert(number);
+            return self.close(number);
+        }
+        let side = self.random.below(2) as u8;
+        if self.random.chance(1, 3) {
+            return self.any_energy(number, side);
+        }
+        let room = MOST_TOTAL - self.book.periods[&number].sums.total(side);
+        let cents = self.any_cents(room as u64);
+        self.amount_on(number, side, cents)
+    }
+
+    /// An amount that brings the sides nearer, or the notice when they are equal.
+    fn close(&mut self, number: u32) -> Entry {
+        let sums = &self.book.periods[&number].sums;
+        let (by, to) = (sums.total(0), sums.total(1));
+        let difference = by.abs_diff(to) as u64;
+        if difference == 0 {
+            self.closing.remove(&number);
+            return Entry::notice(number);
+        }
+        let side = u8::from(by > to);
+        let whole = self.random.chance(2, 3);
+        let cents = if whole { difference } else { self.random.between(1, difference) };
+        self.amount_on(number, side, cents)
+    }
+
+    fn amount_on(&mut self, number: u32, side: u8, cents: u64) -> Entry {
+        let participant = self.participant_on(side);
+        let tier = match side {
+            0 => 0,
+            _ if self.random.chance(1, 2) => 5,
+            _ => self.random.between(1, 5) as u8,
+        };
+        Entry::amount(number, participant, side, tier, cents)
+    }
+
+    /// Half of what is owing by participants is owing by the lower numbers.
+    fn participant_on(&mut self, side: u8) -> u8 {
+        let n = self.book.n as u64;
+        let lower = side == 0 && self.random.chance(1, 2);
+        self.random.below(if lower { n.div_ceil(2) } else { n }) as u8
+    }
+
+    pub fn any_cents(&mut self, room: u64) -> u64 {
+        let cents = match self.manner.scale {
+            Scale::Few => self.random.between(1, 12),
+            Scale::Hundreds => self.random.between(1, 300),
+            Scale::Millions => self.random.between(1, 1_000_000_000),
+            Scale::Bound => {
+                let part = self.random.between(1, room.max(1));
+                self.random.pick(&[1, 2, part, part, part, room, room.saturating_sub(1)])
+            }
+        };
+        cents.clamp(1, room.max(1))
+    }
+
+    fn any_energy(&mut self, number: u32, side: u8) -> Entry {
+        let participant = self.participant_on(side);
+        let (quantity, price) = self.any_quantity_and_price();
+        Entry::energy(number, participant, side, quantity, price)
+    }
+
+    fn any_quantity_and_price(&mut self) -> (u32, u32) {
+        let random = &mut self.random;
+        let (quantity, price) = match self.manner.scale {
+            // Products of an odd number of 10,000 come to a half.
+            Scale::Few if random.chance(1, 3) => (random.pick(&[1, 3, 10, 20, 30]) * 100, 100),
+            Scale::Few => (random.below(120), random.below(120)),
+            Scale::Hundreds => (random.below(2_000), random.below(150)),
+            Scale::Millions => (random.below(1_000_000), random.below(1_000_000)),
+            Scale::Bound => {
+                let (most, dearest) = (u64::from(MOST_QUANTITY), u64::from(MOST_PRICE));
+                let (q, p) = (random.below(most), random.below(dearest));
+                (
+                    random.pick(&[0, 1, q, most - 1, most]),
+                    random.pick(&[0, 1, p, dearest - 1, dearest]),
+                )
+            }
+        };
+        (quantity as u32, price as u32)
+    }
+
+    /// Payers that can still pay on a period and that no earlier arrears bar.
+    fn payers(&self, number: u32) -> Vec<usize> {
+        let period = &self.book.periods[&number];
+        let can_pay = |&i: &usize| period.most_receipt(i) > 0 && !self.book.barred(number, i);
+        (0..self.book.n).filter(can_pay).collect()
+    }
+
+    /// Receipts; with k payers left the settle entry comes in 1 of k + 1 cases,
+    /// so that every number of defaulters is as likely.
+    fn after_notice(&mut self, number: u32) -> Entry {
+        let payers = self.payers(number);
+        if self.random.chance(1, payers.len() as u64 + 1) {
+            return Entry::settle(number);
+        }
+        let payer = self.random.pick(&payers);
+        self.receipt_of(number, payer)
+    }
+
+    fn after_settlement(&mut self, number: u32) -> Entry {
+        let payers = self.payers(number);
+        if payers.is_empty() {
+            // Every payer is barred by an earlier period; the oldest has none barred.
+            let oldest = |period: &Period| (0..self.book.n).any(|i| period.arrears_of(i) > 0);
+            let first = self.book.periods.iter().find(|(_, period)| oldest(period));
+            let number = *first.expect("a period with arrears").0;
+            let payer = self.payers(number)[0];
+            return self.receipt_of(number, payer);
+        }
+        let payer = self.random.pick(&payers);
+        self.receipt_of(number, payer)
+    }
+
+    /// A receipt of all that the payer can pay, of a part, or of a cent.
+    fn receipt_of(&mut self, number: u32, payer: usize) -> Entry {
+        let most = self.book.periods[&number].most_receipt(payer) as u64;
+        let cents = match self.random.below(20) {
+            0..=10 => most,
+            11 | 12 => 1,
+            13 => most.saturating_sub(1).max(1),
+            _ => self.random.between(1, most),
+        };
+        Entry::receipt(number, payer as u8, cents)
+    }
+}

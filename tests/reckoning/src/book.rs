@@ -1,0 +1,232 @@
+//! The book: which entries it accepts, and what each accepted entry does.
+
+use crate::codec::{Entry, Field, AMOUNT, ENERGY, MOST_CENTS, NOTICE, OPEN, RECEIPT, SETTLE};
+use crate::month::{self, Notice, Sums};
+use crate::refusals::*;
+use std::collections::BTreeMap;
+
+pub const MOST_PARTICIPANTS: u64 = 64;
+pub const MOST_PERIODS: usize = 12;
+/// Each side's total over a period is at most this.
+pub const MOST_TOTAL: u128 = MOST_CENTS as u128;
+
+#[derive(Clone, Debug)]
+pub enum Stage {
+    BeforeNotice,
+    Noticed(Notice),
+    Settled { claim: Vec<u128>, arrears: Vec<u128> },
+}
+
+#[derive(Clone, Debug)]
+pub struct Period {
+    pub sums: Sums,
+    pub stage: Stage,
+    pub received: Vec<u128>,
+    pub paid: Vec<u128>,
+}
+
+/// The answer to an entry: 0 or the refusal's number, and the rounds run.
+#[derive(Clone, Copy, Debug, PartialEq, Eq)]
+pub struct Answer {
+    pub number: u8,
+    pub rounds: u64,
+}
+
+#[derive(Clone, Debug)]
+pub struct Book {
+    pub n: usize,
+    pub highest: u32,
+    /// The periods in the book; the oldest has the lowest number.
+    pub periods: BTreeMap<u32, Period>,
+}
+
+impl Period {
+    fn new(n: usize) -> Period {
+        let (received, paid) = (vec![0; n], vec![0; n]);
+        Period { sums: Sums::new(n), stage: Stage::BeforeNotice, received, paid }
+    }
+
+    pub fn held(&self) -> u128 {
+        self.received.iter().sum::<u128>() - self.paid.iter().sum::<u128>()
+    }
+
+    /// Arrears of a payer once the period is settled; 0 before.
+    pub fn arrears_of(&self, payer: usize) -> u128 {
+        match &self.stage {
+            Stage::Settled { arrears, .. } => arrears[payer],
+            _ => 0,
+        }
+    }
+
+    /// The most that a receipt of this payer can be: what is left of P_i, or its arrears.
+    pub fn most_receipt(&self, payer: usize) -> u128 {
+        match &self.stage {
+            Stage::BeforeNotice => 0,
+            Stage::Noticed(notice) => notice.payable[payer] - self.received[payer],
+            Stage::Settled { arrears, .. } => arrears[payer],
+        }
+    }
+
+    fn settled_without_arrears(&self) -> bool {
+        match &self.stage {
+            Stage::Settled { arrears, .. } => arrears.iter().all(|&cents| cents == 0),
+            _ => false,
+        }
+    }
+
+    fn stage_takes(&self, kind: u8) -> bool {
+        match self.stage {
+            Stage::BeforeNotice => matches!(kind, ENERGY | AMOUNT | NOTICE),
+            Stage::Noticed(_) => matches!(kind, RECEIPT | SETTLE),
+            Stage::Settled { .. } => kind == RECEIPT,
+        }
+    }
+
+    /// Adds a receipt and gives what it pays each participant.
+    fn receive(&mut self, payer: usize, cents: u128) -> Vec<u128> {
+        self.received[payer] += cents;
+        let held = self.held();
+        let Stage::Settled { claim, arrears } = &mut self.stage else {
+            return vec![0; self.paid.len()];
+        };
+        arrears[payer] -= cents;
+        let shortages = month::shortages(&self.sums, claim, &self.paid);
+        let payments = month::late_payments(&shortages, held);
+        for (paid, payment) in self.paid.iter_mut().zip(&payments) {
+            *paid += payment;
+        }
+        payments
+    }
+
+    /// Settles, and gives what is paid to each participant and the rounds run.
+    fn settle(&mut self) -> (Vec<u128>, u64) {
+        let Stage::Noticed(notice) = &self.stage else {
+            panic!("settled at a wrong stage");
+        };
+        let settlement = month::settle(&self.sums, notice, &self.received);
+        let (claim, arrears) = (settlement.step_one.claim, settlement.step_one.arrears);
+        self.stage = Stage::Settled { claim, arrears };
+        self.paid.clone_from(&settlement.paid);
+        (settlement.paid, settlement.rounds)
+    }
+}
+
+/// Cents that an energy or amount entry adds, and the tier they go to on side 1.
+pub fn cents_and_tier(entry: &Entry) -> (u128, usize) {
+    match entry.kind {
+        ENERGY => (month::energy_cents(entry.quantity, entry.price), 5),
+        _ => (entry.cents.into(), entry.tier.into()),
+    }
+}
+
+impl Book {
+    /// The book for n participants, and 0 or 4.
+    pub fn make(n: u64) -> (Book, u8) {
+        let stands = (1..=MOST_PARTICIPANTS).contains(&n);
+        let n = if stands { n as usize } else { 0 };
+        let book = Book { n, highest: 0, periods: BTreeMap::new() };
+        (book, if stands { ACCEPTED } else { N_REFUSED })
+    }
+
+    /// The cents held in the book.
+    pub fn held(&self) -> u128 {
+        self.periods.values().map(Period::held).sum()
+    }
+
+    /// Whether an earlier settled period has arrears of this payer.
+    pub fn barred(&self, period: u32, payer: usize) -> bool {
+        self.periods.range(..period).any(|(_, earlier)| earlier.arrears_of(payer) > 0)
+    }
+
+    /// The refusal that an entry gets with so many payout words, if any.
+    pub fn refusal(&self, entry: &Entry, words: usize) -> Option<u8> {
+        if self.n == 0 {
+            return Some(N_REFUSED);
+        }
+        if words < self.n {
+            return Some(TOO_LITTLE_LENT);
+        }
+        if !entry.in_values() {
+            return Some(FIELD_OUTSIDE);
+        }
+        match entry.kind {
+            OPEN => self.refusal_of_opening(entry.period),
+            _ => self.refusal_of_other_kinds(entry),
+        }
+    }
+
+    fn refusal_of_opening(&self, period: u32) -> Option<u8> {
+        if period <= self.highest {
+            return Some(NOT_ABOVE_HIGHEST);
+        }
+        (self.periods.len() == MOST_PERIODS).then_some(TWELVE_PERIODS)
+    }
+
+    fn refusal_of_other_kinds(&self, entry: &Entry) -> Option<u8> {
+        let Some(period) = self.periods.get(&entry.period) else {
+            return Some(PERIOD_NOT_IN_BOOK);
+        };
+        let participant = usize::from(entry.participant);
+        if entry.has(Field::Participant) && participant >= self.n {
+            return Some(NO_PARTICIPANT);
+        }
+        if !period.stage_takes(entry.kind) {
+            return Some(WRONG_STAGE);
+        }
+        match entry.kind {
+            ENERGY | AMOUNT => {
+                let total = period.sums.total(entry.side) + cents_and_tier(entry).0;
+                (total > MOST_TOTAL).then_some(TOTAL_PASSES_BOUND)
+            }
+            NOTICE => (period.sums.total(0) != period.sums.total(1)).then_some(SIDES_UNEQUAL),
+            RECEIPT if self.barred(entry.period, participant) => Some(EARLIER_ARREARS),
+            RECEIPT => {
+                let above = u128::from(entry.cents) > period.most_receipt(participant);
+                above.then_some(RECEIPT_ABOVE)
+            }
+            _ => None,
+        }
+    }
+
+    /// Applies an entry; an accepted one sets the first n payout words.
+    pub fn apply(&mut self, entry: &Entry, words: &mut [u64]) -> Answer {
+        if let Some(number) = self.refusal(entry, words.len()) {
+            return Answer { number, rounds: 0 };
+        }
+        let (payouts, rounds) = self.accept(entry);
+        for (word, &cents) in words.iter_mut().zip(&payouts) {
+            *word = u64::try_from(cents).expect("a payout fits 64 bits");
+        }
+        Answer { number: ACCEPTED, rounds }
+    }
+
+    /// What an accepted entry does: what it pays each participant, and the rounds.
+    fn accept(&mut self, entry: &Entry) -> (Vec<u128>, u64) {
+        let nothing = vec![0; self.n];
+        if entry.kind == OPEN {
+            self.highest = entry.period;
+            self.periods.insert(entry.period, Period::new(self.n));
+            return (nothing, 0);
+        }
+        let period = self.periods.get_mut(&entry.period).expect("in the book");
+        let participant = usize::from(entry.participant);
+        let result = match entry.kind {
+            ENERGY | AMOUNT => {
+                let (cents, tier) = cents_and_tier(entry);
+                period.sums.add(participant, entry.side, tier, cents);
+                (nothing, 0)
+            }
+            NOTICE => {
+                period.stage = Stage::Noticed(month::notice(&period.sums));
+                (nothing, 0)
+            }
+            RECEIPT => (period.receive(participant, entry.cents.into()), 0),
+            SETTLE => period.settle(),
+            kind => panic!("no such kind: {kind}"),
+        };
+        if period.settled_without_arrears() {
+            self.periods.remove(&entry.period);
+        }
+        result
+    }
+}

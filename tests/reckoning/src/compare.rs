@@ -1,0 +1,158 @@
+//! Compares two programs with the reckoning on feeds and trials from fixed seeds.
+
+use crate::feeds::{self, KINDS};
+use crate::judge::{judge_listing, judge_trial};
+use crate::pairs;
+use crate::program;
+use crate::refusals::NUMBERS;
+use crate::trials::{self, TRIALS, TRIALS_OF_ROUNDS};
+
+/// Differences printed in full; the others are only counted.
+const SHOWN: u64 = 10;
+/// The least that a comparison must have covered.
+const LEAST_FEEDS: u64 = 500;
+const LEAST_MONTHS: u64 = 20_000;
+const LEAST_CALLS: u64 = 5_000;
+
+#[derive(Default)]
+struct Totals {
+    feeds: u64,
+    months: u64,
+    late: u64,
+    left: u64,
+    with_arrears: u64,
+    trials: u64,
+    calls: u64,
+    differences: u64,
+    listed: [u64; NUMBERS],
+    tried: [u64; NUMBERS],
+    rounds: Vec<u64>,
+}
+
+fn add(to: &mut [u64], from: &[u64]) {
+    to.iter_mut().zip(from).for_each(|(to, from)| *to += from);
+}
+
+fn print_answers(name: &str, counts: &[u64]) {
+    let parts: Vec<String> = counts
+        .iter()
+        .enumerate()
+        .filter(|(_, &count)| count > 0)
+        .map(|(number, count)| format!("{number}: {count}"))
+        .collect();
+    println!("{name}: {}", parts.join(", "));
+}
+
+impl Totals {
+    /// Prints a difference and keeps the input that showed it.
+    fn differs(&mut self, name: &str, input: &[u8], what: &str) {
+        self.differences += 1;
+        if self.differences > SHOWN {
+            return;
+        }
+        println!("difference: {name}: {what}");
+        let path = std::env::temp_dir().join(format!("reckoning-{}", name.replace(' ', "-")));
+        match std::fs::write(&path, input) {
+            Ok(()) => println!("its input: {}", path.display()),
+            Err(error) => println!("its input could not be kept: {error}"),
+        }
+    }
+
+    fn feed(&mut self, program: &str, name: &str, feed: &[u8]) {
+        self.feeds += 1;
+        let judged = program::run(program, feed).and_then(|found| judge_listing(feed, &found));
+        match judged {
+            Err(what) => self.differs(name, feed, &what),
+            Ok(count) => {
+                self.months += count.settled_months;
+                self.late += count.late_receipts;
+                self.left += count.months_left;
+                self.with_arrears += count.months_with_arrears;
+                add(&mut self.listed, &count.answers);
+            }
+        }
+    }
+
+    fn trial(&mut self, program: &str, name: &str, calls: &[u8]) {
+        self.trials += 1;
+        let judged = program::run(program, calls).and_then(|found| judge_trial(calls, &found));
+        match judged {
+            Err(what) => self.differs(name, calls, &what),
+            Ok(count) => {
+                self.calls += count.calls;
+                add(&mut self.tried, &count.answers);
+                self.rounds.resize(count.rounds.len(), 0);
+                add(&mut self.rounds, &count.rounds);
+            }
+        }
+    }
+
+    /// Whether the comparison covered what it must, when nothing differed.
+    fn covered(&self) -> bool {
+        let enough = self.feeds >= LEAST_FEEDS
+            && self.months >= LEAST_MONTHS
+            && self.calls >= LEAST_CALLS
+            && self.tried.iter().all(|&count| count > 0)
+            && self.listed.iter().enumerate().all(|(number, &count)| number == 5 || count > 0);
+        if !enough {
+            println!("too little was compared");
+        }
+        enough
+    }
+
+    fn print(&self) {
+        print_answers("answers in listings", &self.listed);
+        print_answers("answers in trials", &self.tried);
+        print_answers("apply calls by rounds", &self.rounds);
+        println!(
+            "months settled with arrears: {}, months that left: {}",
+            self.with_arrears, self.left
+        );
+        println!("trials: {}", self.trials);
+        println!(
+            "compared: {} feeds, {} settled months, {} late receipts, {} trial calls, {} differences",
+            self.feeds, self.months, self.late, self.calls, self.differences
+        );
+    }
+}
+
+fn compare_feeds(totals: &mut Totals, program: &str) {
+    for (count, feed) in feeds::month_a_cut().iter().enumerate() {
+        totals.feed(program, &format!("feed month-a cut-after {count}"), feed);
+    }
+    for kind in &KINDS {
+        for seed in 0..kind.feeds {
+            let feed = feeds::feed(seed, kind.name).expect("a kind that exists");
+            totals.feed(program, &format!("feed {} seed {seed}", kind.name), &feed);
+        }
+    }
+}
+
+fn compare_trials(totals: &mut Totals, program: &str) {
+    totals.trial(program, "trial empty", &[]);
+    for (place, pair) in pairs::pairs().iter().enumerate() {
+        let calls = [&pair.both[..], &pair.alone].concat();
+        let name = format!("trial pair {place} {} {} with {}", pair.of, pair.earlier, pair.later);
+        totals.trial(program, &name, &calls);
+    }
+    for seed in 0..TRIALS {
+        totals.trial(program, &format!("trial seed {seed}"), &trials::trial(seed));
+    }
+    for seed in 0..TRIALS_OF_ROUNDS {
+        totals.trial(
+            program,
+            &format!("trial of rounds seed {seed}"),
+            &trials::trial_of_rounds(seed),
+        );
+    }
+}
+
+/// Compares the programs at two paths; true only if all agree.
+pub fn compare(listing: &str, trial: &str) -> bool {
+    let mut totals = Totals::default();
+    compare_feeds(&mut totals, listing);
+    compare_trials(&mut totals, trial);
+    let covered = totals.differences > 0 || totals.covered();
+    totals.print();
+    covered && totals.differences == 0
+}

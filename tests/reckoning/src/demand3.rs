@@ -1,0 +1,224 @@
+//! Demand 3 on a listing that another program printed: the equations are put
+//! over the feed's accepted entries and over the numbers as printed.
+
+use crate::book::cents_and_tier;
+use crate::codec::{self, Entry, Field, AMOUNT, ENERGY, NOTICE, OPEN, RECEIPT, SETTLE};
+use crate::lines::{self, Line};
+use crate::month::{self, Notice, StepOne, Sums, TIERS};
+use crate::refusals::*;
+use std::collections::BTreeMap;
+
+/// What a listing came to.
+#[derive(Clone, Debug, Default)]
+pub struct Count {
+    pub settled_months: u64,
+    pub late_receipts: u64,
+    pub months_left: u64,
+    pub months_with_arrears: u64,
+    /// How often each answer was given.
+    pub answers: [u64; NUMBERS],
+}
+
+/// A period by the accepted entries that name it.
+struct Account {
+    sums: Sums,
+    notice: Option<Notice>,
+    settled: Option<StepOne>,
+    received: Vec<u128>,
+    /// Receipts after the settle entry.
+    late: Vec<u128>,
+    paid: Vec<u128>,
+}
+
+struct Ledger {
+    n: usize,
+    in_book: BTreeMap<u32, Account>,
+    received: u128,
+    paid: u128,
+    count: Count,
+}
+
+fn sum(cents: &[u128]) -> u128 {
+    cents.iter().sum()
+}
+
+fn check(holds: bool, what: &str) -> Result<(), String> {
+    if holds {
+        Ok(())
+    } else {
+        Err(format!("demand 3: {what}"))
+    }
+}
+
+impl Account {
+    fn new(n: usize) -> Account {
+        let none = vec![0; n];
+        let (received, late, paid) = (none.clone(), none.clone(), none);
+        Account { sums: Sums::new(n), notice: None, settled: None, received, late, paid }
+    }
+
+    fn arrears(&self, step: &StepOne) -> Result<u128, String> {
+        let mut total = 0;
+        for (arrears, late) in step.arrears.iter().zip(&self.late) {
+            check(arrears >= late, "a payer's late receipts pass its arrears")?;
+            total += arrears - late;
+        }
+        Ok(total)
+    }
+
+    /// Whether the period must have left, after its equations were checked.
+    fn check_settled(&self, step: &StepOne) -> Result<bool, String> {
+        let arrears = self.arrears(step)?;
+        let (receipts, paid) = (sum(&self.received) + sum(&self.late), sum(&self.paid));
+        check(receipts >= paid, "more paid in a period than received in it")?;
+        let held = receipts - paid;
+        let claims = sum(&step.claim);
+        check(claims == arrears + held + paid, "unpaid claims are not arrears plus held money")?;
+        check(held <= 2 * (self.paid.len() as u128 - 1), "held money above 2 × (n − 1)")?;
+        if arrears == 0 {
+            check(self.paid == step.claim, "a period left with a claim not paid in full")?;
+        }
+        Ok(arrears == 0)
+    }
+
+    /// No later tier gains while an earlier one has a shortage.
+    fn check_tiers(&self, step: &StepOne, payouts: &[u128]) -> Result<(), String> {
+        let mut short = [false; TIERS];
+        let mut gains = [false; TIERS];
+        for (i, payout) in payouts.iter().enumerate() {
+            let tiers = &self.sums.to[i];
+            let full = month::fill(tiers, step.claim[i]);
+            let after = month::fill(tiers, self.paid[i]);
+            let before = month::fill(tiers, self.paid[i] - payout);
+            check(self.paid[i] <= step.claim[i], "a participant was paid above its claim")?;
+            for tier in 0..TIERS {
+                short[tier] |= after[tier] < full[tier];
+                gains[tier] |= after[tier] > before[tier];
+            }
+        }
+        let first_short = short.iter().position(|&short| short).unwrap_or(TIERS);
+        let last_gain = gains.iter().rposition(|&gains| gains).unwrap_or(0);
+        check(last_gain <= first_short, "late money to a tier while an earlier one was short")
+    }
+}
+
+impl Ledger {
+    fn new(n: usize) -> Ledger {
+        let in_book = BTreeMap::new();
+        Ledger { n, in_book, received: 0, paid: 0, count: Count::default() }
+    }
+
+    /// Takes an accepted entry with the payouts printed for it.
+    fn accepted(&mut self, entry: &Entry, payouts: &[u128]) -> Result<(), String> {
+        check(self.n > 0, "an entry accepted in a book of refused n")?;
+        let outside = entry.has(Field::Participant) && usize::from(entry.participant) >= self.n;
+        check(!outside, "an entry accepted for a participant of n or above")?;
+        if entry.kind == OPEN {
+            check(sum(payouts) == 0, "an opening paid money")?;
+            let before = self.in_book.insert(entry.period, Account::new(self.n));
+            return check(before.is_none(), "a period opened twice");
+        }
+        let Some(mut account) = self.in_book.remove(&entry.period) else {
+            return Err("demand 3: an entry accepted on a period that is not in the book".into());
+        };
+        let was_settled = account.settled.is_some();
+        self.enter(&mut account, entry)?;
+        account.paid.iter_mut().zip(payouts).for_each(|(paid, cents)| *paid += cents);
+        self.paid += sum(payouts);
+        let mut left = false;
+        if let Some(step) = &account.settled {
+            left = account.check_settled(step)?;
+            if was_settled {
+                account.check_tiers(step, payouts)?;
+            }
+            self.count.months_left += u64::from(left);
+            self.count.months_with_arrears += u64::from(!left && !was_settled);
+        } else {
+            check(sum(payouts) == 0, "money paid before settlement")?;
+        }
+        if !left {
+            self.in_book.insert(entry.period, account);
+        }
+        Ok(())
+    }
+
+    /// What an accepted entry adds to its period.
+    fn enter(&mut self, account: &mut Account, entry: &Entry) -> Result<(), String> {
+        let participant = usize::from(entry.participant);
+        match entry.kind {
+            ENERGY | AMOUNT => {
+                let (cents, tier) = cents_and_tier(entry);
+                account.sums.add(participant, entry.side, tier, cents);
+            }
+            NOTICE => account.notice = Some(month::notice(&account.sums)),
+            RECEIPT => {
+                let late = account.settled.is_some();
+                let received = if late { &mut account.late } else { &mut account.received };
+                received[participant] += u128::from(entry.cents);
+                self.received += u128::from(entry.cents);
+                self.count.late_receipts += u64::from(late);
+            }
+            SETTLE => {
+                let Some(notice) = &account.notice else {
+                    return Err("demand 3: settled before notice".into());
+                };
+                let within = account.received.iter().zip(&notice.payable).all(|(r, p)| r <= p);
+                check(within, "more received than payable")?;
+                account.settled = Some(month::step_one(notice, &account.received));
+                self.count.settled_months += 1;
+            }
+            kind => panic!("no such kind: {kind}"),
+        }
+        Ok(())
+    }
+
+    /// The cents held that the listing prints, by both of 01's reckonings.
+    fn check_held(&self, held: u128) -> Result<(), String> {
+        check(self.received == self.paid + held, "received is not paid plus held")?;
+        let in_book = self
+            .in_book
+            .values()
+            .map(|account| sum(&account.received) + sum(&account.late) - sum(&account.paid));
+        check(in_book.sum::<u128>() == held, "held is not the sum over the periods in the book")
+    }
+
+    fn entry(&mut self, entry: &Entry, line: &Line) -> Result<(), String> {
+        let payouts = line.payouts(self.n)?;
+        check(sum(&payouts) == line.paid, "the line's paid is not the sum of its payouts")?;
+        if line.answer == ACCEPTED {
+            self.accepted(entry, &payouts)?;
+        } else {
+            check(line.paid == 0, "a refused entry paid")?;
+        }
+        self.check_held(line.held)
+    }
+}
+
+/// Checks demand 3 on a feed and the listing printed for it.
+pub fn check_listing(feed: &[u8], listing: &[u8]) -> Result<Count, String> {
+    let printed = lines::parse(listing)?;
+    let n = feed.first().map_or(0, |&n| if n <= 64 { usize::from(n) } else { 0 });
+    let mut ledger = Ledger::new(n);
+    let mut place = 1;
+    for (at, line) in printed.iter().enumerate() {
+        let number = at as u64 + 1;
+        let here = |what: String| format!("entry {number}: {what}");
+        check(line.number == number, "entries are not numbered from 1 on").map_err(here)?;
+        ledger.count.answers[usize::from(line.answer)] += 1;
+        match codec::read(feed, place) {
+            Ok((entry, next)) => {
+                ledger.entry(&entry, line).map_err(here)?;
+                place = next;
+            }
+            Err(refusal) => {
+                let last = at + 1 == printed.len();
+                check(line.answer == refusal && last, "unreadable bytes").map_err(here)?;
+                check(line.paid == 0, "unreadable bytes paid").map_err(here)?;
+                ledger.check_held(line.held).map_err(here)?;
+                return Ok(ledger.count);
+            }
+        }
+    }
+    check(feed.is_empty() || place == feed.len() as u64, "the listing ends before the feed")?;
+    Ok(ledger.count)
+}

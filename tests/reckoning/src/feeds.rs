@@ -1,0 +1,184 @@
+//! Feeds from fixed seeds, of several kinds.
+
+use crate::aim::{Aim, Manner, Scale};
+use crate::book::Book;
+use crate::codec::{Entry, MOST_CENTS};
+use crate::random::Random;
+use crate::rounds;
+
+/// A kind of feed: its name, how many a comparison takes, and how many entries each has.
+pub struct Kind {
+    pub name: &'static str,
+    pub feeds: u64,
+    pub entries: u64,
+}
+
+const fn kind(name: &'static str, feeds: u64, entries: u64) -> Kind {
+    Kind { name, feeds, entries }
+}
+
+pub const KINDS: [Kind; 14] = [
+    // n of 1 to 6 and few cents.
+    kind("few", 150, 600),
+    // n of 2 to 6 and hundreds of cents.
+    kind("hundreds", 80, 600),
+    // n of 1 to 6 and millions.
+    kind("millions", 60, 600),
+    // Amounts about the bound of a side's total.
+    kind("bound", 80, 500),
+    // n of 63 and 64.
+    kind("wide", 40, 3_000),
+    // n of 7 to 62.
+    kind("middle", 30, 1_500),
+    // Twelve periods at once, and openings of a thirteenth.
+    kind("twelve", 50, 1_200),
+    // Months whose settlement runs many rounds; so many months, not entries.
+    kind("rounds", 40, 8),
+    // Half of the entries are meant to be refused.
+    kind("wrong", 60, 500),
+    // Period numbers up to 2^32 − 1.
+    kind("highest", 20, 200),
+    // Ends within an entry, or in bytes that cannot be read.
+    kind("cut", 120, 60),
+    // Random bytes.
+    kind("noise", 60, 40),
+    // n of 0 and above 64.
+    kind("refused-n", 30, 40),
+    // 100,000 entries.
+    kind("long", 5, 100_000),
+];
+
+fn manner(name: &str, random: &mut Random, n: u64) -> Manner {
+    let scale = match name {
+        "few" | "highest" => Scale::Few,
+        "hundreds" => Scale::Hundreds,
+        "millions" => Scale::Millions,
+        "bound" => Scale::Bound,
+        _ => random.pick(&[Scale::Few, Scale::Few, Scale::Hundreds, Scale::Millions, Scale::Bound]),
+    };
+    let periods = match name {
+        "twelve" => 12,
+        _ => random.pick(&[1, 2, 3, 4, 7]),
+    };
+    let wrong = match name {
+        "wrong" => 50,
+        "wide" | "long" => 3,
+        _ => random.pick(&[0, 5, 15]),
+    };
+    let step = if name == "highest" { 1 << 29 } else { random.pick(&[1, 1, 4, 100]) };
+    Manner { scale, wrong, periods, amounts: n + 3, step }
+}
+
+fn participants(name: &str, seed: u64, random: &mut Random) -> u64 {
+    match name {
+        "few" | "bound" => 1 + seed % 6,
+        "wide" => 63 + seed % 2,
+        "middle" => random.between(7, 62),
+        "rounds" => random.between(4, 64),
+        "long" => [3, 64, 2, 5, 6][(seed % 5) as usize],
+        "refused-n" => [0, 65, 255, random.between(66, 254)][(seed % 4) as usize],
+        "twelve" => random.between(2, 6),
+        "cut" | "wrong" => random.pick(&[1, 2, 3, 4, 5, 6, 63, 64]),
+        _ => random.between(1, 6),
+    }
+}
+
+/// The feed of a kind for a seed; nothing for a kind that does not exist.
+pub fn feed(seed: u64, name: &str) -> Option<Vec<u8>> {
+    let place = KINDS.iter().position(|kind| kind.name == name)?;
+    let mut random = Random::new(seed.wrapping_mul(64).wrapping_add(place as u64));
+    if name == "noise" {
+        return Some(noise(&mut random));
+    }
+    let n = participants(name, seed, &mut random);
+    if name == "rounds" {
+        return Some(months_of_rounds(&mut random, n, KINDS[place].entries));
+    }
+    let manner = manner(name, &mut random, n);
+    let mut aim = Aim::new(random, n, manner);
+    let mut bytes = vec![n as u8];
+    for _ in 0..KINDS[place].entries {
+        let entry = aim.propose();
+        aim.book.apply(&entry, &mut [0; 64]);
+        bytes.extend(entry.bytes());
+    }
+    if name == "cut" {
+        end_badly(&mut bytes, &mut aim.random);
+    }
+    Some(bytes)
+}
+
+fn months_of_rounds(random: &mut Random, n: u64, months: u64) -> Vec<u8> {
+    let mut book = Book::make(n).0;
+    let mut bytes = vec![n as u8];
+    for _ in 0..months {
+        bytes.extend(rounds::month(random, &mut book).iter().flat_map(Entry::bytes));
+    }
+    bytes
+}
+
+/// Random bytes, half of them with kinds that exist more often than not.
+fn noise(random: &mut Random) -> Vec<u8> {
+    let count = random.below(400) as usize;
+    let mut bytes = random.bytes(count);
+    if random.chance(1, 2) {
+        for byte in &mut bytes {
+            *byte %= 7;
+        }
+    }
+    bytes
+}
+
+/// Ends a feed within an entry, with an unknown kind, a bad field or random bytes.
+fn end_badly(bytes: &mut Vec<u8>, random: &mut Random) {
+    match random.below(4) {
+        0 => {
+            let keep = random.below(bytes.len() as u64 + 1);
+            bytes.truncate(keep as usize);
+        }
+        1 => bytes.push(random.pick(&[0, 7, 8, 127, 255])),
+        2 => bytes.extend(bad_field(random).bytes()),
+        _ => {
+            let count = random.between(1, 40) as usize;
+            bytes.extend(random.bytes(count));
+        }
+    }
+    if random.chance(1, 3) {
+        bytes.extend(Entry::open(u32::MAX).bytes());
+    }
+}
+
+/// An entry with one field just outside its values.
+fn bad_field(random: &mut Random) -> Entry {
+    random.pick(&[
+        Entry::energy(1, 64, 0, 1, 1),
+        Entry::energy(1, 0, 2, 1, 1),
+        Entry::energy(1, 0, 0, 100_000_001, 1),
+        Entry::energy(1, 0, 0, 1, 10_000_001),
+        Entry::amount(1, 64, 0, 0, 1),
+        Entry::amount(1, 0, 2, 0, 1),
+        Entry::amount(1, 0, 0, 1, 1),
+        Entry::amount(1, 0, 1, 0, 1),
+        Entry::amount(1, 0, 1, 6, 1),
+        Entry::amount(1, 0, 0, 0, 0),
+        Entry::amount(1, 0, 0, 0, MOST_CENTS + 1),
+        Entry::receipt(1, 64, 1),
+        Entry::receipt(1, 0, 0),
+        Entry::receipt(1, 0, MOST_CENTS + 1),
+    ])
+}
+
+/// Month A of 01, its late receipts among them, as a feed of period 7.
+pub fn month_a() -> Vec<u8> {
+    let mut bytes = vec![3];
+    for entry in crate::calls::month_a_entries(7) {
+        bytes.extend(entry.bytes());
+    }
+    bytes
+}
+
+/// Month A's feed cut after each of its bytes, from empty to whole.
+pub fn month_a_cut() -> Vec<Vec<u8>> {
+    let whole = month_a();
+    (0..=whole.len()).map(|count| whole[..count].to_vec()).collect()
+}

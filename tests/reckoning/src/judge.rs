@@ -1,0 +1,72 @@
+//! Judges what another program printed, byte for byte, and by demand 3.
+
+use crate::demand3::{self, Count};
+use crate::listing::listing;
+use crate::refusals::NUMBERS;
+use crate::trial;
+
+fn shown(line: Option<&&[u8]>) -> String {
+    match line {
+        None => "no line".into(),
+        Some(line) => format!("{:?}", String::from_utf8_lossy(line)),
+    }
+}
+
+/// The first difference between the reckoned text and the text found.
+pub fn first_difference(reckoned: &[u8], found: &[u8]) -> Option<String> {
+    if reckoned == found {
+        return None;
+    }
+    let left: Vec<&[u8]> = reckoned.split_inclusive(|&byte| byte == b'\n').collect();
+    let right: Vec<&[u8]> = found.split_inclusive(|&byte| byte == b'\n').collect();
+    let mut at = 0;
+    while left.get(at) == right.get(at) {
+        at += 1;
+    }
+    let (left, right) = (shown(left.get(at)), shown(right.get(at)));
+    Some(format!("line {}: reckoned {left}, found {right}", at + 1))
+}
+
+/// What the listing found for a feed came to, or how it differs.
+pub fn judge_listing(feed: &[u8], found: &[u8]) -> Result<Count, String> {
+    let by_demand_3 = demand3::check_listing(feed, found);
+    match (first_difference(&listing(feed), found), by_demand_3) {
+        (None, result) => result,
+        (Some(difference), Ok(_)) => Err(difference),
+        (Some(difference), Err(what)) => Err(format!("{difference}; {what}")),
+    }
+}
+
+/// What a trial's lines came to.
+#[derive(Clone, Debug, Default)]
+pub struct Calls {
+    pub calls: u64,
+    /// How often each answer was given.
+    pub answers: [u64; NUMBERS],
+    /// How many apply calls were answered with so many rounds.
+    pub rounds: Vec<u64>,
+}
+
+/// Counts the lines that the reckoning gives for a trial.
+fn count(lines: &[u8]) -> Calls {
+    let mut calls = Calls { rounds: vec![0; 65], ..Calls::default() };
+    let text = std::str::from_utf8(lines).expect("text");
+    for line in text.lines() {
+        let words: Vec<&str> = line.split(' ').collect();
+        calls.calls += 1;
+        calls.answers[words[1].parse::<usize>().expect("an answer")] += 1;
+        if words[0] == "apply" {
+            calls.rounds[words[2].parse::<usize>().expect("rounds")] += 1;
+        }
+    }
+    calls
+}
+
+/// What the lines found for a trial came to, or how they differ.
+pub fn judge_trial(calls: &[u8], found: &[u8]) -> Result<Calls, String> {
+    let reckoned = trial::expected(calls);
+    match first_difference(&reckoned, found) {
+        Some(difference) => Err(difference),
+        None => Ok(count(&reckoned)),
+    }
+}

@@ -1,0 +1,31 @@
+//! A reckoning of 01 on u128, written from the rules alone. It shares no code
+//! and no definitions with the clearing book that is tested by it.
+
+pub mod aim;
+pub mod book;
+pub mod calls;
+pub mod codec;
+pub mod compare;
+pub mod damage;
+pub mod demand3;
+pub mod feeds;
+pub mod judge;
+pub mod lines;
+pub mod listing;
+pub mod month;
+pub mod months;
+pub mod pairs;
+pub mod program;
+pub mod random;
+pub mod refusals;
+pub mod rounds;
+pub mod trial;
+pub mod trials;
+mod wrong;
+
+#[cfg(test)]
+mod examples;
+#[cfg(test)]
+mod tests_of_book;
+#[cfg(test)]
+mod tests_of_codec;

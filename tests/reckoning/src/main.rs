@@ -1,0 +1,70 @@
+//! The reckoning as a program; `reckoning` alone prints its uses.
+
+use reckoning::{compare, damage, feeds, listing, pairs, trial};
+use std::io::{self, BufReader, BufWriter, Write};
+use std::process::ExitCode;
+
+const USES: &str = "uses:
+  reckoning compare --listing PATH --trial PATH
+  reckoning selftest
+  reckoning listing < FEED
+  reckoning trial < CALLS
+  reckoning feed SEED KIND > FEED
+  reckoning pairs
+kinds of feed:";
+
+fn status(right: bool) -> ExitCode {
+    if right {
+        ExitCode::SUCCESS
+    } else {
+        ExitCode::FAILURE
+    }
+}
+
+fn print_uses() -> ExitCode {
+    let kinds: Vec<&str> = feeds::KINDS.iter().map(|kind| kind.name).collect();
+    eprintln!("{USES} {}", kinds.join(" "));
+    ExitCode::FAILURE
+}
+
+/// Writes to standard output in blocks.
+fn print(text: impl FnOnce(&mut BufWriter<io::Stdout>) -> io::Result<()>) -> ExitCode {
+    let mut out = BufWriter::with_capacity(1 << 16, io::stdout());
+    let result = text(&mut out).and_then(|()| out.flush());
+    if let Err(error) = &result {
+        eprintln!("reckoning: {error}");
+    }
+    status(result.is_ok())
+}
+
+fn print_feed(seed: &str, kind: &str) -> ExitCode {
+    let seed = seed.parse().ok();
+    match seed.and_then(|seed| feeds::feed(seed, kind)) {
+        Some(feed) => print(|out| out.write_all(&feed)),
+        None => print_uses(),
+    }
+}
+
+/// The pairs of refusals that the comparison puts as trials.
+fn print_pairs(out: &mut impl Write) -> io::Result<()> {
+    for pair in pairs::pairs() {
+        writeln!(out, "{}: {} before {}", pair.of, pair.earlier, pair.later)?;
+    }
+    Ok(())
+}
+
+fn main() -> ExitCode {
+    let words: Vec<String> = std::env::args().skip(1).collect();
+    let words: Vec<&str> = words.iter().map(String::as_str).collect();
+    match words[..] {
+        ["compare", "--listing", listing, "--trial", trial] => {
+            status(compare::compare(listing, trial))
+        }
+        ["selftest"] => status(damage::selftest()),
+        ["listing"] => print(|out| listing::list(io::stdin(), out)),
+        ["trial"] => print(|out| trial::run(BufReader::new(io::stdin()), out)),
+        ["pairs"] => print(print_pairs),
+        ["feed", seed, kind] => print_feed(seed, kind),
+        _ => print_uses(),
+    }
+}

@@ -1,0 +1,24 @@
+//! The numbers of 01's section "Refused, by whoever causes it".
+
+pub const ACCEPTED: u8 = 0;
+/// No byte, or fewer than the body needs.
+pub const TOO_FEW_BYTES: u8 = 1;
+pub const KIND_UNKNOWN: u8 = 2;
+pub const FIELD_OUTSIDE: u8 = 3;
+/// n is 0 or above 64.
+pub const N_REFUSED: u8 = 4;
+/// Fewer than n payout words, or fewer bytes than the writer needs.
+pub const TOO_LITTLE_LENT: u8 = 5;
+pub const NOT_ABOVE_HIGHEST: u8 = 6;
+pub const TWELVE_PERIODS: u8 = 7;
+pub const PERIOD_NOT_IN_BOOK: u8 = 8;
+pub const WRONG_STAGE: u8 = 9;
+pub const SIDES_UNEQUAL: u8 = 10;
+pub const TOTAL_PASSES_BOUND: u8 = 11;
+/// The participant is n or above.
+pub const NO_PARTICIPANT: u8 = 12;
+pub const RECEIPT_ABOVE: u8 = 13;
+pub const EARLIER_ARREARS: u8 = 14;
+
+/// How many numbers there are, 0 (accepted) among them.
+pub const NUMBERS: usize = 15;

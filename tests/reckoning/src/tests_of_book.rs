@@ -1,0 +1,119 @@
+//! Tests of the book: each refusal, what a refusal leaves, and the payout words.
+
+use crate::book::Book;
+use crate::calls;
+use crate::codec::{Entry, MOST_CENTS};
+
+/// A book of three with period 2 settled with arrears of payer 0, 3 after its
+/// notice, and 4 before it.
+fn scene() -> Book {
+    let mut book = Book::make(3).0;
+    let mut entries = calls::month_a_to_settle(2);
+    entries.extend(calls::month_a_to_notice(3));
+    entries.push(Entry::open(4));
+    entries.push(Entry::amount(4, 0, 0, 0, MOST_CENTS));
+    for entry in entries {
+        assert_eq!(book.apply(&entry, &mut [9; 3]).number, 0, "{entry:?}");
+    }
+    book
+}
+
+/// Applies a refused entry: the number, nothing changed, no rounds.
+fn refused(book: &mut Book, entry: Entry, words: usize) -> u8 {
+    let before = format!("{book:?}");
+    let mut lent = vec![9; words];
+    let answer = book.apply(&entry, &mut lent);
+    assert!(answer.number != 0 && answer.rounds == 0);
+    assert_eq!(format!("{book:?}"), before);
+    assert!(lent.iter().all(|&word| word == 9));
+    answer.number
+}
+
+#[test]
+fn each_refusal() {
+    let rows = [
+        (Entry::open(5), 2, 5),
+        (Entry::amount(4, 0, 0, 1, 1), 3, 3),
+        (Entry::open(4), 3, 6),
+        (Entry::notice(5), 3, 8),
+        (Entry::amount(4, 3, 0, 0, 1), 3, 12),
+        (Entry::energy(3, 0, 0, 1, 1), 3, 9),
+        (Entry::amount(2, 0, 0, 0, 1), 3, 9),
+        (Entry::notice(3), 3, 9),
+        (Entry::receipt(4, 1, 1), 3, 9),
+        (Entry::settle(4), 3, 9),
+        (Entry::settle(2), 3, 9),
+        (Entry::notice(4), 3, 10),
+        (Entry::amount(4, 1, 0, 0, 1), 3, 11),
+        (Entry::energy(4, 1, 0, 100, 100), 3, 11),
+        (Entry::receipt(3, 2, 335), 3, 13),
+        (Entry::receipt(3, 1, 1), 3, 13),
+        (Entry::receipt(2, 0, 301), 3, 13),
+        (Entry::receipt(2, 2, 1), 3, 13),
+        (Entry::receipt(3, 0, 1), 3, 14),
+        (Entry::receipt(3, 0, 601), 3, 14),
+    ];
+    let mut book = scene();
+    for (entry, words, number) in rows {
+        assert_eq!(refused(&mut book, entry, words), number, "{entry:?}");
+    }
+    for period in 5..=13 {
+        assert_eq!(book.apply(&Entry::open(period), &mut [9; 3]).number, 0);
+    }
+    assert_eq!(refused(&mut book, Entry::open(14), 3), 7);
+}
+
+#[test]
+fn arrears_paid_free_the_payer() {
+    let mut book = scene();
+    assert_eq!(book.apply(&Entry::receipt(2, 0, 300), &mut [9; 3]).number, 0);
+    assert!(!book.periods.contains_key(&2));
+    assert_eq!(book.apply(&Entry::receipt(3, 0, 600), &mut [9; 3]).number, 0);
+}
+
+#[test]
+fn acceptance_sets_the_first_n_words_only() {
+    let mut book = scene();
+    let mut words = [9; 5];
+    assert_eq!(book.apply(&Entry::receipt(3, 2, 1), &mut words).number, 0);
+    assert_eq!(words, [0, 0, 0, 9, 9]);
+    words = [9; 5];
+    assert_eq!(book.apply(&Entry::receipt(2, 0, 100), &mut words).number, 0);
+    assert_eq!(words, [0, 78, 22, 9, 9]);
+}
+
+#[test]
+fn a_period_that_left_makes_room_but_cannot_come_back() {
+    let mut book = Book::make(1).0;
+    for period in 1..=12 {
+        book.apply(&Entry::open(period), &mut [9]);
+    }
+    book.apply(&Entry::notice(5), &mut [9]);
+    book.apply(&Entry::settle(5), &mut [9]);
+    assert_eq!(refused(&mut book, Entry::settle(5), 1), 8);
+    assert_eq!(refused(&mut book, Entry::open(5), 1), 6);
+    assert_eq!(book.apply(&Entry::open(u32::MAX), &mut [9]).number, 0);
+    assert_eq!(refused(&mut book, Entry::open(u32::MAX), 1), 6);
+}
+
+#[test]
+fn a_month_with_one_round_says_so() {
+    let mut book = Book::make(3).0;
+    let entries = [
+        Entry::open(1),
+        Entry::amount(1, 0, 0, 0, 300),
+        Entry::amount(1, 2, 0, 0, 500),
+        Entry::amount(1, 1, 1, 5, 600),
+        Entry::amount(1, 2, 1, 5, 200),
+        Entry::notice(1),
+        Entry::receipt(1, 0, 300),
+    ];
+    for entry in entries {
+        assert_eq!(book.apply(&entry, &mut [9; 3]).number, 0);
+    }
+    let mut words = [9; 3];
+    let answer = book.apply(&Entry::settle(1), &mut words);
+    assert_eq!((answer.number, answer.rounds), (0, 1));
+    assert_eq!(words, [0, 300, 0]);
+    assert_eq!(book.held(), 0);
+}

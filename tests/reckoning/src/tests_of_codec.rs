@@ -1,0 +1,114 @@
+//! Tests of reading and writing: each undoes the other, and each refusal.
+
+use crate::codec::*;
+use crate::random::Random;
+
+fn any_right_entry(random: &mut Random) -> Entry {
+    let period = random.any() as u32;
+    let participant = random.below(64) as u8;
+    let side = random.below(2) as u8;
+    let tier = if side == 0 { 0 } else { random.between(1, 5) as u8 };
+    let cents = random.between(1, MOST_CENTS);
+    match random.between(1, 6) {
+        1 => Entry::open(period),
+        2 => {
+            let quantity = random.between(0, MOST_QUANTITY.into()) as u32;
+            let price = random.between(0, MOST_PRICE.into()) as u32;
+            Entry::energy(period, participant, side, quantity, price)
+        }
+        3 => Entry::amount(period, participant, side, tier, cents),
+        4 => Entry::notice(period),
+        5 => Entry::receipt(period, participant, cents),
+        _ => Entry::settle(period),
+    }
+}
+
+#[test]
+fn body_lengths() {
+    let lengths: Vec<usize> = (1..=6).map(body_length).collect();
+    assert_eq!(lengths, [4, 14, 15, 4, 13, 4]);
+}
+
+#[test]
+fn reading_undoes_writing() {
+    let mut random = Random::new(1);
+    for _ in 0..5_000 {
+        let entry = any_right_entry(&mut random);
+        let mut lent = [238; 20];
+        let count = write(&entry, &mut lent).unwrap();
+        assert_eq!(count, 1 + body_length(entry.kind));
+        assert!(lent[count..].iter().all(|&byte| byte == 238));
+        assert_eq!(read(&lent, 0), Ok((entry, count as u64)));
+        assert_eq!(read(&lent[..count - 1], 0), Err(1));
+    }
+}
+
+#[test]
+fn writing_undoes_reading() {
+    let mut random = Random::new(2);
+    let mut accepted = 0;
+    for _ in 0..200_000 {
+        let mut bytes = random.bytes(16);
+        bytes[0] %= 7;
+        // Small fields, so that many are inside their values.
+        bytes[5] %= 66;
+        bytes[6] %= 3;
+        bytes[7] %= 7;
+        bytes[11] %= 3;
+        for byte in &mut bytes[12..] {
+            *byte = 0;
+        }
+        if let Ok((entry, next)) = read(&bytes, 0) {
+            let mut lent = [0; 16];
+            assert_eq!(write(&entry, &mut lent), Ok(next as usize));
+            assert_eq!(lent[..next as usize], bytes[..next as usize]);
+            accepted += 1;
+        }
+    }
+    assert!(accepted > 50_000);
+}
+
+#[test]
+fn reading_refuses() {
+    assert_eq!(read(&[], 0), Err(1));
+    assert_eq!(read(&[1, 7, 0, 0, 0], 5), Err(1));
+    assert_eq!(read(&[1, 7, 0, 0, 0], u64::MAX), Err(1));
+    assert_eq!(read(&[1, 7, 0, 0], 0), Err(1));
+    assert_eq!(read(&[0], 0), Err(2));
+    assert_eq!(read(&[7, 0, 0, 0, 0], 0), Err(2));
+    assert_eq!(read(&[9, 1, 7, 0, 0, 0], 1), Ok((Entry::open(7), 6)));
+}
+
+/// Each bound of each field: the last value that stands, and the next, which is 3.
+#[test]
+fn fields_at_their_bounds() {
+    let rows = [
+        (Entry::energy(1, 63, 1, 1, 1), Entry::energy(1, 64, 1, 1, 1)),
+        (Entry::energy(1, 0, 1, 1, 1), Entry::energy(1, 0, 2, 1, 1)),
+        (Entry::energy(1, 0, 0, 100_000_000, 1), Entry::energy(1, 0, 0, 100_000_001, 1)),
+        (Entry::energy(1, 0, 0, 1, 10_000_000), Entry::energy(1, 0, 0, 1, 10_000_001)),
+        (Entry::amount(1, 63, 0, 0, 1), Entry::amount(1, 64, 0, 0, 1)),
+        (Entry::amount(1, 0, 1, 1, 1), Entry::amount(1, 0, 2, 1, 1)),
+        (Entry::amount(1, 0, 0, 0, 1), Entry::amount(1, 0, 0, 1, 1)),
+        (Entry::amount(1, 0, 1, 1, 1), Entry::amount(1, 0, 1, 0, 1)),
+        (Entry::amount(1, 0, 1, 5, 1), Entry::amount(1, 0, 1, 6, 1)),
+        (Entry::amount(1, 0, 0, 0, 1), Entry::amount(1, 0, 0, 0, 0)),
+        (Entry::amount(1, 0, 0, 0, MOST_CENTS), Entry::amount(1, 0, 0, 0, MOST_CENTS + 1)),
+        (Entry::receipt(1, 63, 1), Entry::receipt(1, 64, 1)),
+        (Entry::receipt(1, 0, 1), Entry::receipt(1, 0, 0)),
+        (Entry::receipt(1, 0, MOST_CENTS), Entry::receipt(1, 0, MOST_CENTS + 1)),
+    ];
+    for (stands, refused) in rows {
+        assert!(read(&stands.bytes(), 0).is_ok(), "{stands:?}");
+        assert_eq!(read(&refused.bytes(), 0), Err(3), "{refused:?}");
+        assert_eq!(write(&refused, &mut [0; 16]), Err(3), "{refused:?}");
+    }
+}
+
+#[test]
+fn writing_refuses_and_changes_nothing() {
+    let mut lent = [238; 15];
+    assert_eq!(write(&Entry::amount(1, 0, 1, 5, 1), &mut lent), Err(5));
+    assert_eq!(write(&Entry::amount(1, 0, 1, 6, 1), &mut lent), Err(3));
+    assert_eq!(lent, [238; 15]);
+}
