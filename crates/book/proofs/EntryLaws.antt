@@ -10,6 +10,7 @@ use lib.Dec.{eqb, leb}
 use lib.ListN.{length, drop}
 use lib.Seq.{sets, sets-eq}
 use Rattle.book.specs.Fields.{bytes, fieldsAt, fieldBytes}
+use Rattle.book.specs.Kinds.{isOpen}
 use Rattle.book.specs.Entries.{bodyLengths, bodyLength, unknown, layout, kindOf, fieldsOf, entryOf, bytesOf, size}
 use Rattle.book.specs.declared.entries.Entry.{Entry}
 use Rattle.book.specs.declared.entries.Entry.the-variants.{Open, Energy, Amount, Notice, Receipt, Settle}
@@ -90,3 +91,12 @@ bytes-size (Settle _) = refl
 -- what is put from the first place on
 pub put-front : (b o : List ℕ) (n : ℕ) → length b ≡ n → n ≤ length o → sets o 0 b ≡ b ++ drop n o
 put-front b o n e h = sets-eq b o 0 (omega arith) ∙ rw (zero-add, e)
+
+-- an open entry is told by its kind
+pub kind-open : (e : Entry) → eqb (kindOf e) 1 ≡ isOpen e
+kind-open (Open k) = refl
+kind-open (Energy k i side quantity price) = refl
+kind-open (Amount k i side tier cents) = refl
+kind-open (Notice k) = refl
+kind-open (Receipt k i cents) = refl
+kind-open (Settle k) = refl

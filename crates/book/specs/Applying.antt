@@ -1,4 +1,4 @@
--- How the answers of making a book and of applying an entry read.
+-- How the answer to an entry reads.
 use Prim.Native.Nat.{ℕ}
 use mathlib.Core.List.{List}
 use Rattle.book.specs.Answers.{numberOf}

@@ -27,9 +27,11 @@ stored s j p = cond (leaves (s .n) p) (removed s j) (replaced s j p)
 unfoldable pub payoutWords : ℕ → List ℕ → List ℕ → List ℕ
 payoutWords n pays words = filled (at pays) n words
 
+-- an open entry: one more period, and nothing paid
 abbrev pub opened : State → ℕ → List ℕ → Outcome
 opened s k words = record { answer = 0; rounds = 0; state = added s (fresh k); words = payoutWords (s .n) (zeros places) words }
 
+-- an entry that changes the period at place j
 abbrev pub moved : State → ℕ → Change → List ℕ → Outcome
 moved s j c words = record {
   answer = 0;

@@ -1,15 +1,12 @@
 // One entry of any kind.
 ghost use mathlib.Core.Path.{_≡_};
 ghost use mathlib.Core.Bool.{true, false};
-ghost use Prim.Native.Nat.{_≤_, _<_};
-ghost use lib.ListN.{length};
 ghost use Rattle.book.specs.Allowed.{allowed};
 ghost use Rattle.book.specs.Kinds.{periodOf, isOpen, receiptCents};
 ghost use Rattle.book.specs.State.{view};
 ghost use Rattle.book.specs.Rules.{Entered, barring};
 ghost use Rattle.book.specs.Step.{reply};
 ghost use Rattle.book.specs.Valid.{Valid};
-ghost use Rattle.book.specs.Answers.{numberOf};
 ghost use Rattle.book.specs.Applying.{replied};
 use crate::Book;
 use crate::PERIODS;
@@ -19,6 +16,8 @@ use crate::answering::period_answer;
 use crate::answers::Answer;
 use crate::answers::is_accepted;
 use crate::entries::Entry;
+use crate::entries::OPEN;
+use crate::entries::kind_of;
 use crate::periods::fresh_period;
 use crate::periods::is_leaving;
 use crate::places::has_earlier_arrears;
@@ -68,30 +67,7 @@ fn period_of(e: Entry) -> u32
 fn is_open(e: Entry) -> bool
     ensures { λ r. ⌜ r ≡ isOpen e ⌝ }
 {
-    match e {
-        Entry::Open { period: _ } => true,
-        Entry::Energy {
-            period: _,
-            participant: _,
-            side: _,
-            quantity: _,
-            price: _,
-        } => false,
-        Entry::Amount {
-            period: _,
-            participant: _,
-            side: _,
-            tier: _,
-            cents: _,
-        } => false,
-        Entry::Notice { period: _ } => false,
-        Entry::Receipt {
-            period: _,
-            participant: _,
-            cents: _,
-        } => false,
-        Entry::Settle { period: _ } => false,
-    }
+    kind_of(e) == OPEN
 }
 
 fn receipt_cents(e: Entry) -> u64

@@ -33,6 +33,9 @@ pub enum Entry {
     },
 }
 
+// The kind of an open entry.
+pub const OPEN: usize = 1;
+
 // One more than the highest kind; there is no kind 0.
 pub const KINDS: usize = 7;
 

@@ -1,5 +1,4 @@
 // The clearing book: periods and entries.
-use exact::PLACES;
 use exact::Row;
 use settlement::TierCells;
 

@@ -83,8 +83,8 @@ pub extern "C" fn clearing_scaled(
     true
 }
 
-// Writes what a month's settlement pays, its claims and its arrears, and answers the rounds that ran, or 65 where the arguments are
-// not in order. Then nothing is written.
+// Writes what a month's settlement pays, its claims and its arrears, and answers the rounds that ran, or 65 where the
+// arguments are not in order. Then nothing is written.
 #[no_mangle]
 pub extern "C" fn clearing_settle(
     by: &[u64],
@@ -115,7 +115,8 @@ pub extern "C" fn clearing_settle(
     settled.rounds
 }
 
-// Writes what late money pays each claim of which some was paid, and says whether the arguments were in order. If not, nothing is written.
+// Writes what late money pays each claim of which some was paid, and says whether the arguments were in order. If not,
+// nothing is written.
 #[no_mangle]
 pub extern "C" fn clearing_late(
     to: &[u64],
