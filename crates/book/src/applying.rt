@@ -24,8 +24,8 @@ use crate::places::has_earlier_arrears;
 use crate::places::place;
 use crate::places::with_period;
 use crate::places::without_period;
-use crate::words::put_words;
 use exact::PLACES;
+use exact::put_cells;
 use exact::total;
 
 // The answer to an entry, the rounds of a settlement, and the book that it leaves.
@@ -152,7 +152,7 @@ fn open_period(b: Book, e: Entry, words: &mut [u64]) -> Applied
     if PERIODS <= b.count {
         return refused(Answer::Full, b);
     }
-    put_words(words, b.n, [0; PLACES]);
+    put_cells(words, b.n, [0; PLACES]);
     let p = fresh_period(k);
     let next = with_period(b, p);
     Applied {
@@ -179,7 +179,7 @@ fn change_named(mut b: Book, e: Entry, words: &mut [u64]) -> Applied
     }
     let c = change_period(p, n, e);
     let pays = c.pays;
-    put_words(words, n, pays);
+    put_cells(words, n, pays);
     let held = b.held + receipt_cents(e) - total(pays, n);
     let q = c.period;
     if is_leaving(q, n) {

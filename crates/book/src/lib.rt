@@ -12,7 +12,6 @@ mod fields;
 mod periods;
 mod places;
 mod reader;
-mod words;
 mod writer;
 
 pub use answers::Answer;

@@ -15,5 +15,6 @@ pub use rows::PLACES;
 pub use rows::Row;
 pub use rows::excesses;
 pub use rows::minima;
+pub use rows::put_cells;
 pub use rows::sums;
 pub use rows::total;

@@ -1,15 +1,13 @@
 -- Laws of slices' first cells.
 use Prim.Native.Nat.{ℕ, zero, suc, _+_, _*_, _≤_, _<_}
-use mathlib.Core.Path.{_≡_, refl, sym, ap, _∙_}
-use mathlib.Core.List.{List, [], _∷_, _++_, append-nil}
+use mathlib.Core.Path.{_≡_, refl, sym, ap}
+use mathlib.Core.List.{List, append-nil}
 use native.Mathlib.Omega.{arith}
-use native.Mathlib.Numerals.{add-one}
-use lib.ListN.{take, drop, length, drop-of-length-le}
+use lib.ListN.{take, length, drop-of-length-le}
 use lib.Seq.{take-suc, getD-take}
-use Rattle.exact.specs.Rows.{places, at, sum, table, filled}
-use Rattle.exact.proofs.RowLaws.{sum-none, sum-more, sum-cong}
+use Rattle.exact.specs.Rows.{at, sum, table, filled}
+use Rattle.exact.proofs.RowLaws.{sum-more, sum-cong}
 use Rattle.settlement.specs.Month.{tiers, overTiers, tierAt}
-use Rattle.settlement.proofs.Laws.{tier-at}
 use Rattle.exports.specs.Slices.{front}
 
 pub front-at : (count : ℕ) (s : List ℕ) (i : ℕ) → i < count → at (front count s) i ≡ at s i

@@ -1,6 +1,7 @@
 // Slices that a caller lends: their first cells taken into arrays, arrays put back, and their totals held to a side's limit.
 use exact::PLACES;
 use exact::Row;
+use exact::put_cells;
 use settlement::TIERS;
 use settlement::TierCells;
 ghost use mathlib.Core.Path.{_≡_};
@@ -65,7 +66,5 @@ pub fn put_row(out: &mut [u64], row: Row)
     requires { ⌜ places ≤ length (now out) ⌝ }
     ensures { λ _. ⌜ now (out .exit) ≡ written row (now (out .entry)) ⌝ }
 {
-    for i in 0..PLACES {
-        out[i] = row[i];
-    }
+    put_cells(out, PLACES, row);
 }

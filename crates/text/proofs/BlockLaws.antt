@@ -4,7 +4,7 @@ use mathlib.Core.Path.{_≡_, refl, sym, ap, _∙_}
 use mathlib.Core.List.{List, _++_}
 use native.Mathlib.Omega.{arith}
 use native.Mathlib.Numerals.{add-one}
-use lib.ListN.{length, set, getD, take, drop, length-append, length-take, length-drop}
+use lib.ListN.{length, set, getD, take, drop, length-append, length-drop}
 use lib.Seq.{length-take-le, drop-at, getD-drop, take-suc, drop-cons, set-at, append-snoc}
 use Rattle.text.specs.Blocks.{kept}
 

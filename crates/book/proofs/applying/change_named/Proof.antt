@@ -87,8 +87,8 @@ change-period-requires c κs =
     let f = passed c in
     (found-sound (f .found), s .pre .2, s .pre .1 .fields, record { barred = _; passed = f .passed })
 
-put-words-requires : tie.Need-put-words-requires
-put-words-requires c κs = search needs
+put-cells-requires : tie.Need-put-cells-requires
+put-cells-requires c κs = search needs
 
 receipt-cents-requires : tie.Need-receipt-cents-requires
 receipt-cents-requires c κs = search needs
@@ -139,6 +139,7 @@ same-length : tie.Need-same-length
 same-length c = search needs
 
 returns-3 : tie.Need-returns-3
+unfolding payoutWords
 returns-3 c =
     let s = c .before .before .before .before .before .before .before .before .before .before .before .before .before .before .before .before .before .before .before .before .before in
     let f = passed (c .before .before .before .before .before .before .before .before .before .before .before .before) in
@@ -150,7 +151,7 @@ returns-3 c =
       answer = 0;
       rounds = ap (λ (x : period.Change). x .rounds) q z;
       book = (c .without-period .ensures ∙ ap pack (sym (stored-leaves (view (s .args .t1)) _ _ l))) z;
-      words = (c .before .before .before .before .before .before .before .before .put-words .ensures ∙ ap (λ (r : List ℕ). payoutWords (s .args .t1 .n) r (s .args .words .now)) pays) z;
+      words = (c .before .before .before .before .before .before .before .before .put-cells .ensures ∙ ap (λ (r : List ℕ). payoutWords (s .args .t1 .n) r (s .args .words .now)) pays) z;
     })
 
 mul-q : tie.Need-mul-q
@@ -163,6 +164,7 @@ same-length-2 : tie.Need-same-length-2
 same-length-2 c = search needs
 
 returns-4 : tie.Need-returns-4
+unfolding payoutWords
 returns-4 c =
     let s = c .before .before .before .before .before .before .before .before .before .before .before .before .before .before .before .before .before .before .before .before in
     let f = passed (c .before .before .before .before .before .before .before .before .before .before .before) in
@@ -182,7 +184,7 @@ returns-4 c =
           ∙ stored (s .pre .0) _ _ held (f .found .used) (omega (arith, t, c .before .before .before .before .receipt-cents .ensures, held-stays f))
           ∙ ap pack (sym (stored-stays (view b) _ _ l))
           ) z;
-      words = (c .before .before .before .before .before .before .before .put-words .ensures ∙ ap (λ (r : List ℕ). payoutWords (s .args .t1 .n) r (s .args .words .now)) pays) z;
+      words = (c .before .before .before .before .before .before .before .put-cells .ensures ∙ ap (λ (r : List ℕ). payoutWords (s .args .t1 .n) r (s .args .words .now)) pays) z;
     })
 
 pub change-named-spec : {M : Type 1} → statement M
@@ -201,7 +203,7 @@ change-named-spec =
     refused-requires-2
     returns-2
     change-period-requires
-    put-words-requires
+    put-cells-requires
     receipt-cents-requires
     add-held
     total-requires

@@ -1,3 +1,4 @@
+use Rattle.book.specs.Step.{payoutWords}
 use Rattle.book.specs.State.{pack, heldIn}
 use Rattle.book.specs.declared.Period.{Period}
 use Prim.Native.Nat.{_-_, _≤_, _<_}
@@ -40,8 +41,8 @@ returns-2 c =
     let f : mostPeriods ≤ length (view (s .args .b) .periods) = omega (arith, count-is (s .pre .0), c .before .if2 .taken) in
     refuses (s .pre .0) _ _ Full _ (c .refused2 .ensures) (to-open (s .pre .0) _ _ (s .pre .1) (s .pre .2) ∙ rw (lt-leb _ _ k, le-leb _ _ f)) (λ z. omega (arith, z))
 
-put-words-requires : tie.Need-put-words-requires
-put-words-requires c κs = search needs
+put-cells-requires : tie.Need-put-cells-requires
+put-cells-requires c κs = search needs
 
 fresh-period-requires : tie.Need-fresh-period-requires
 fresh-period-requires c κs = search needs
@@ -56,7 +57,7 @@ same-length : tie.Need-same-length
 same-length c = search needs
 
 returns-3 : tie.Need-returns-3
-unfolding zeros
+unfolding zeros payoutWords
 returns-3 c =
     let s = c .before .before .before .before .before .before .before .before .before .before .before .before in
     let b = s .args .b in
@@ -70,7 +71,7 @@ returns-3 c =
       answer = 0;
       rounds = 0;
       book = (c .with-period .ensures ∙ ap (λ (p : Period). pack (added (view b) p)) (c .before .fresh-period .ensures ∙ ap fresh (c .before .before .before .before .before .before .before .before .before .before .period-of .ensures))) z;
-      words = c .before .before .before .before .put-words .ensures z;
+      words = c .before .before .before .before .put-cells .ensures z;
     })
 
 pub open-period-spec : {M : Type 1} → statement M
@@ -82,7 +83,7 @@ open-period-spec =
     returns
     refused-requires-2
     returns-2
-    put-words-requires
+    put-cells-requires
     fresh-period-requires
     with-period-requires
     same-length

@@ -1,5 +1,4 @@
 use mathlib.Core.Path.{_∙_}
-use native.Mathlib.Omega.{arith}
 use borrow.Author.Tests.{le-leb, lt-leb}
 use Rattle.exports.specs.Orders.{tiersInOrder}
 use Rattle.exports.proofs.OrderLaws.{tiers-tested}

@@ -1,74 +1,17 @@
-use Prim.Native.Nat.{_-_, _≤_}
-use mathlib.Core.Path.{_≡_, refl, _∙_}
-use native.Mathlib.Omega.{arith}
-use Rattle.exact.specs.Rows.{places, at, filled}
-use Rattle.exact.proofs.RowLaws.{filled-none, filled-more, filled-length}
 use Rattle.exports.specs.Slices.{written}
 use borrow.Author.Needs.{needs}
 use Rattle.exports.proofs.slices.put_row.Statement.{statement}
 use Rattle.exports.proofs.slices.put_row.Tie as tie
 
-abbrev Inv-loop : tie.InvT-loop
-Inv-loop out₀ row i₀ out i = (i ≤ places) × (out ≡ filled (at row) i out₀)
+put-cells-requires : tie.Need-put-cells-requires
+put-cells-requires c κs = search needs
 
-abbrev μ-loop : tie.MeasureT-loop
-μ-loop out₀ row i₀ out i = places - i
+same-length : tie.Need-same-length
+same-length c = search needs
 
-loop-holds : tie.Need-loop-holds Inv-loop μ-loop
-loop-holds c = (search needs, filled-none _ _)
-
-mul-out : tie.Need-mul-out Inv-loop μ-loop
-mul-out c = search needs
-
-array-read-out : tie.Need-array-read-out Inv-loop μ-loop
-array-read-out c = search needs
-
-mul-out-2 : tie.Need-mul-out-2 Inv-loop μ-loop
-mul-out-2 c = search needs
-
-slice-write-out : tie.Need-slice-write-out Inv-loop μ-loop
-slice-write-out c =
-    let a = c .before .before .args in
-    let l = c .before .loop in
-    rw (l .inv .1, filled-length (at (a .t2)) (l .i) (a .out .now) (omega arith)) (omega arith)
-
-add-i : tie.Need-add-i Inv-loop μ-loop
-add-i c = search needs
-
-loop-less : tie.Need-loop-less Inv-loop μ-loop
-loop-less c = search needs
-
-loop-again : tie.Need-loop-again Inv-loop μ-loop
-loop-again c =
-    let a = c .before .before .args in
-    let l = c .before .loop in
-    (search needs, rw (l .inv .1) (filled-more (at (a .t2)) 0 (l .i) (a .out .now) (omega arith)))
-
-same-length : tie.Need-same-length Inv-loop μ-loop
-same-length c =
-    let a = c .before .before .args in
-    let l = c .before .loop in
-    rw (l .inv .1) (filled-length (at (a .t2)) (l .i) (a .out .now) (omega arith))
-
-returns : tie.Need-returns Inv-loop μ-loop
+returns : tie.Need-returns
 unfolding written
-returns c =
-    let e : c .before .loop .i ≡ places = omega arith in
-    c .before .loop .inv .1 ∙ rw e refl
+returns c = c .before .before .put-cells .ensures
 
 pub put-row-spec : {M : Type 1} → statement M
-put-row-spec =
-    tie.close
-    (tie.spec
-    Inv-loop
-    μ-loop
-    loop-holds
-    mul-out
-    array-read-out
-    mul-out-2
-    slice-write-out
-    add-i
-    loop-less
-    loop-again
-    same-length
-    returns)
+put-row-spec = tie.close (tie.spec put-cells-requires same-length returns)

@@ -4,7 +4,6 @@ use native.Mathlib.Omega.{arith}
 use lib.ListN.{replicate}
 use Rattle.exact.specs.Rows.{places, at, filled}
 use Rattle.exact.proofs.RowLaws.{filled-none, filled-more}
-use Rattle.exports.specs.Slices.{tierPlaces}
 use Rattle.exports.proofs.SliceLaws.{filled-front}
 use borrow.Author.Needs.{needs}
 use Rattle.exports.proofs.slices.row_of.Statement.{statement}

@@ -2,7 +2,7 @@ use Prim.Native.Nat.{_-_, _≤_}
 use mathlib.Core.Path.{_≡_, refl, _∙_}
 use native.Mathlib.Omega.{arith}
 use lib.ListN.{replicate}
-use Rattle.exact.specs.Rows.{places, at, filled}
+use Rattle.exact.specs.Rows.{at, filled}
 use Rattle.exact.proofs.RowLaws.{filled-none, filled-more}
 use Rattle.exports.specs.Slices.{tierPlaces}
 use Rattle.exports.proofs.SliceLaws.{filled-front}
