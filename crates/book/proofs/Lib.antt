@@ -3,6 +3,7 @@ pub mod FieldLaws
 pub mod EntryLaws
 pub mod Outcomes
 pub mod RoundTrips
+mod FeedLaws
 mod BookExamples
 mod CellLaws
 mod ListLaws
