@@ -87,7 +87,7 @@ fn list_block(start: Standing, feed: &[u8], out: &mut Block, words: &mut Words) 
     let mut turns: usize = 0;
     while turns < feed.len() {
         turns += 1;
-        match book::read_entry(feed, place) {
+        match book::read_next(feed, place) {
             Reading::Found { entry, next } => {
                 let r = book::apply(b, entry, words);
                 let answer = r.answer;
@@ -118,7 +118,7 @@ fn list_block(start: Standing, feed: &[u8], out: &mut Block, words: &mut Words) 
 
 // Why the bytes at a place cannot be read; 0 where they can.
 fn unread(feed: &[u8], place: usize) -> u64 {
-    match book::read_entry(feed, place) {
+    match book::read_next(feed, place) {
         Reading::Found { entry: _, next: _ } => 0,
         Reading::Short => 1,
         Reading::Unknown => 2,

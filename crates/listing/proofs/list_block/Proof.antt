@@ -23,8 +23,8 @@ loop-holds c = search needs
 add-turns : tie.Need-add-turns Inv-loop μ-loop
 add-turns c = search needs
 
-read-entry-requires : tie.Need-read-entry-requires Inv-loop μ-loop
-read-entry-requires c κs = search needs
+read-next-requires : tie.Need-read-next-requires Inv-loop μ-loop
+read-next-requires c κs = search needs
 
 enum-known-entry : tie.Need-enum-known-entry Inv-loop μ-loop
 enum-known-entry c = search needs
@@ -72,7 +72,7 @@ list-block-spec =
     μ-loop
     loop-holds
     add-turns
-    read-entry-requires
+    read-next-requires
     enum-known-entry
     apply-requires
     number-requires
