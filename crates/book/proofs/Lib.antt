@@ -26,4 +26,5 @@ mod Naming
 mod Histories
 mod Replies
 mod Named
+mod Effects
 pub mod Demand3

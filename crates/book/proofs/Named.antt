@@ -9,7 +9,7 @@ use Rattle.exact.specs.Rows.{at, sum}
 use Rattle.book.specs.Checks.{refusal}
 use Rattle.book.specs.Allowed.{allowed, centsLimit}
 use Rattle.book.specs.Kinds.{periodOf, isOpen, receiptCents}
-use Rattle.book.specs.Periods.{leaves, changed}
+use Rattle.book.specs.Periods.{leaves, holds, changed}
 use Rattle.book.specs.State.{view, heldIn, find, noPeriod, periodAt, replaced, removed}
 use Rattle.book.specs.Rules.{Input, Entered, periodChecks, barring, checks}
 use Rattle.book.specs.Step.{moved, accepted}
@@ -23,7 +23,7 @@ use Rattle.book.proofs.ChangeLaws.{Changes}
 use Rattle.book.proofs.StepLaws.{Names, accepted-names}
 use Rattle.book.proofs.ValidLaws.{named-changes}
 use Rattle.book.proofs.Packing.{count-is, read-at, read-in-book, kept-held}
-use Rattle.book.proofs.Bounds.{held-bound}
+use Rattle.book.proofs.Bounds.{held-bound, holds-within}
 use Rattle.book.proofs.Replies.{to-period, held-replaced, held-removed}
 
 -- a receipt's cents are within their limit
@@ -62,6 +62,20 @@ module _ {b : Book} {e : Entry} {w : List ℕ} {j : ℕ} (f : Found b e w j) whe
   found-checks =
       to-period (f .valid) e w (f .entered) (f .not-open) in-list
       ∙ ap (λ (q : Period). refusal (periodChecks (b .n) (barring e (view b .periods)) e q)) (sym same)
+
+  -- the sum of what is held and of a receipt fits 64 bits
+  pub held-fits : b .held + receiptCents e < 2 ^ 64
+  held-fits = omega (
+    arith,
+    kept-held (f .valid),
+    held-bound (b .n) (view b .periods) (f .valid .fit .each),
+    f .valid .fit .few,
+    cents-within e (f .entered .fields),
+  )
+
+  -- the book holds what the period holds
+  pub held-within : holds (b .n) (getD (b .periods) j noPeriod) ≤ b .held
+  held-within = rw (read-at (f .valid) j (f .used)) (omega (arith, kept-held (f .valid), holds-within (b .n) (view b .periods) j (omega (arith, count-is (f .valid), f .used))))
 
 -- and its checks are passed
 pub record Passed (b : Book) (e : Entry) (w : List ℕ) (j : ℕ) : Type 0 where
@@ -105,13 +119,3 @@ module _ {b : Book} {e : Entry} {w : List ℕ} {j : ℕ} (f : Passed b e w j) wh
       (λ k q. leaves (b .n) (changed (b .n) e q .period) ≡ true
       → heldIn (b .n) (removed (view b) k .periods) + sum (at (changed (b .n) e q .pays)) (b .n) ≡ b .held + receiptCents e)
       (sym (f .found .at-place)) (sym (same (f .found))) (λ l. omega (arith, kept-held (f .found .valid), held-removed (f .found .valid) e w (f .found .entered) names l))
-
-  -- the sums of the new cents held fit 64 bits
-  pub held-fits : b .held + receiptCents e < 2 ^ 64
-  held-fits = omega (
-    arith,
-    kept-held (f .found .valid),
-    held-bound (b .n) (view b .periods) (f .found .valid .fit .each),
-    f .found .valid .fit .few,
-    cents-within e (f .found .entered .fields),
-  )

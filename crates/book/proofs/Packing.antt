@@ -1,14 +1,17 @@
 -- The program's record and its state: what a store, a new period and a period that leaves do to both.
-use Prim.Native.Nat.{ℕ, zero, suc, _+_, _-_, _≤_, _<_}
+use Prim.Native.Nat.{ℕ, zero, suc, _+_, _-_, _≤_, _<_, min}
 use mathlib.Core.Path.{_≡_, refl, sym, ap, ap₂, subst, _∙_}
+use mathlib.Core.Logic.{⊎-elim}
 use mathlib.Core.List.{List, [], _∷_, _++_, append-assoc}
 use mathlib.Core.Bool.{true, false, cond}
 use native.Mathlib.Nat.{not-suc-le-zero}
 use native.Mathlib.Numerals.{add-one}
 use native.Mathlib.Omega.{arith}
-use lib.Dec.{eqb}
-use lib.ListN.{length, getD, take, drop, set, replicate, length-append, length-set, drop-of-length-le}
+use borrow.Author.Tests.{eq-eqb, ne-eqb}
+use lib.Dec.{ltb}
+use lib.ListN.{length, getD, take, drop, set, replicate, length-append, length-set, drop-of-length-le, getD-replicate}
 use lib.Seq.{split-at, set-split, set-append-left, set-append-seam, set-at, getD-take, length-take-le, drop-cons, getD-append-add}
+use Rattle.exact.proofs.Cases.{cases, le-or-lt}
 use Rattle.book.specs.Periods.{fresh}
 use Rattle.book.specs.State.{State, view, pack, mostPeriods, centsHeld, heldIn, find, noPeriod, arrearsBefore, earlierArrears, replaced, removed, added}
 use Rattle.book.specs.Valid.{All, InBook, Valid}
@@ -19,6 +22,14 @@ pub all-at : {A : Type 0} (P : A → Type 0) (l : List A) (j : ℕ) (d : A) → 
 all-at P [] j d h u = absurd (not-suc-le-zero h)
 all-at P (x ∷ l) zero d h u = u .0
 all-at P (x ∷ l) (suc j) d h u = all-at P l j d (omega arith) (u .1)
+
+found-later : (m : ℕ) (p : Period) {l : List Period} (r : List Period) → (p .number ≡ m → ⊥) → l ≡ p ∷ r → find m l ≡ suc (find m r)
+unfolding find
+found-later m p r ne e = rw (e, ne-eqb (p .number) m ne)
+
+blank-no-arrears : (i m : ℕ) → arrearsBefore i m (fresh 0) ≡ false
+unfolding arrearsBefore fresh
+blank-no-arrears i m = cases (λ t. t ≡ false) (ltb 0 m) (λ _. refl) (λ _. refl)
 
 module _ {b : Book} (v : Valid b) where
   pub count-is : b .count ≡ length (view b .periods)
@@ -40,25 +51,56 @@ module _ {b : Book} (v : Valid b) where
     pub read-in-book : InBook (b .n) (getD (b .periods) k noPeriod)
     read-in-book = subst (InBook (b .n)) (sym read-at) (all-at (InBook (b .n)) (view b .periods) k noPeriod (omega (arith, count-is)) (v .fit .each))
 
-  -- the search and the scan, one place at a time
+  -- a place that is not in use
+  pub read-blank : (k : ℕ) → b .count ≤ k → k < mostPeriods → getD (b .periods) k noPeriod ≡ fresh 0
+  unfolding pack
+  read-blank k h l =
+      let ps = view b .periods in
+      let e : k ≡ length ps + (k - length ps) = omega (arith, count-is) in
+      ap₂ (λ (x : Book) j. getD (x .periods) j noPeriod) (v .packed) e
+      ∙ getD-append-add ps (replicate (mostPeriods - length ps) (fresh 0)) (k - length ps) noPeriod
+      ∙ getD-replicate (mostPeriods - length ps) (k - length ps) (fresh 0) noPeriod (omega (arith, count-is))
+
+  -- what is left from a place on
+  view-more : (k : ℕ) → k < b .count → drop k (view b .periods) ≡ getD (b .periods) k noPeriod ∷ drop (k + 1) (view b .periods)
+  view-more k h = rw (read-at k h, add-one) (drop-cons (view b .periods) k noPeriod (omega (arith, count-is)))
+
+  view-end : (k : ℕ) → b .count ≤ k → drop k (view b .periods) ≡ []
+  view-end k h = drop-of-length-le (view b .periods) (let l : length (view b .periods) ≤ k = omega (arith, count-is) in l)
+
+  find-end : (k m : ℕ) → b .count ≤ k → find m (drop k (view b .periods)) ≡ 0
+  unfolding find
+  find-end k m h = rw (view-end k h)
+
+  -- the search and the scan, one place at a time; in a place not in use there is nothing to be found
   module _ (k : ℕ) where
-    pub find-more : (m : ℕ) → k < b .count
-        → find m (drop k (view b .periods)) ≡ cond (eqb (getD (b .periods) k noPeriod .number) m) 0 (suc (find m (drop (k + 1) (view b .periods))))
+    pub find-here : (m : ℕ) → getD (b .periods) k noPeriod .number ≡ m → find m (drop k (view b .periods)) ≡ 0
     unfolding find
-    find-more m h = rw (read-at k h, drop-cons (view b .periods) k noPeriod (omega (arith, count-is)), add-one)
+    find-here m e =
+        ⊎-elim (λ h. find-end k m h) (λ h. rw (view-more k h, eq-eqb (getD (b .periods) k noPeriod .number) m e)) (le-or-lt (b .count) k)
 
-    pub find-end : (m : ℕ) → b .count ≤ k → find m (drop k (view b .periods)) ≡ 0
-    unfolding find
-    find-end m h = rw (drop-of-length-le (view b .periods) (let l : length (view b .periods) ≤ k = omega (arith, count-is) in l))
+    pub find-past : (m : ℕ) → (getD (b .periods) k noPeriod .number ≡ m → ⊥)
+        → min k (b .count) + find m (drop k (view b .periods)) ≡ min (k + 1) (b .count) + find m (drop (k + 1) (view b .periods))
+    find-past m e =
+        ⊎-elim (λ h. omega (arith, find-end k m h, find-end (k + 1) m (omega arith))) (λ h. omega (arith, more h)) (le-or-lt (b .count) k)
+      where
+        more : k < b .count → find m (drop k (view b .periods)) ≡ suc (find m (drop (k + 1) (view b .periods)))
+        more h = found-later m (getD (b .periods) k noPeriod) (drop (k + 1) (view b .periods)) e (view-more k h)
 
-    pub earlier-more : (i m : ℕ) → k < b .count → earlierArrears i m (drop k (view b .periods))
+    pub find-nowhere : (m : ℕ) → mostPeriods ≤ k → find m (drop k (view b .periods)) ≡ 0
+    find-nowhere m h = find-end k m (omega (arith, count-few))
+
+    pub earlier-more : (i m : ℕ) → k < mostPeriods → earlierArrears i m (drop k (view b .periods))
         ≡ cond (arrearsBefore i m (getD (b .periods) k noPeriod)) true (earlierArrears i m (drop (k + 1) (view b .periods)))
     unfolding earlierArrears
-    earlier-more i m h = rw (read-at k h, drop-cons (view b .periods) k noPeriod (omega (arith, count-is)), add-one)
+    earlier-more i m l = ⊎-elim
+        (λ h. rw (view-end k h, view-end (k + 1) (omega arith), read-blank k h l, blank-no-arrears i m))
+        (λ h. rw (view-more k h))
+        (le-or-lt (b .count) k)
 
-    pub earlier-end : (i m : ℕ) → b .count ≤ k → earlierArrears i m (drop k (view b .periods)) ≡ false
+    pub earlier-end : (i m : ℕ) → mostPeriods ≤ k → earlierArrears i m (drop k (view b .periods)) ≡ false
     unfolding earlierArrears
-    earlier-end i m h = rw (drop-of-length-le (view b .periods) (let l : length (view b .periods) ≤ k = omega (arith, count-is) in l))
+    earlier-end i m h = rw (view-end k (omega (arith, count-few)))
 
 -- later periods move down by one place, m of them from place k on
 pub slide : List Period → ℕ → ℕ → List Period

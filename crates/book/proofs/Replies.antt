@@ -12,7 +12,7 @@ use Rattle.book.specs.Kinds.{periodOf, isOpen, receiptCents}
 use Rattle.book.specs.Periods.{leaves, holds, changed}
 use Rattle.book.specs.State.{view, pack, heldIn, find, periodAt, replaced, removed}
 use Rattle.book.specs.Rules.{Input, Entered, periodChecks, barring, openChecks, namedChecks, kindChecks, checks}
-use Rattle.book.specs.Step.{Outcome, accepted, reply}
+use Rattle.book.specs.Step.{Outcome, accepted, Reply, reply}
 use Rattle.book.specs.Valid.{Valid}
 use Rattle.book.specs.Answers.{numberOf}
 use Rattle.book.specs.Applying.{replied}
@@ -33,25 +33,32 @@ module _ {b : Book} (v : Valid b) (e : Entry) (w : List ℕ) where
   x = record { entry = e; words = w }
 
   -- a refusal: the record as it was
-  pub refuses : (a : Answer) (r : Applied) → r ≡ record { answer = a; rounds = 0; book = b }
-      → refusal (checks (view b) (record { entry = e; words = w })) ≡ numberOf a → (numberOf a ≡ 0 → ⊥) → replied r w ≡ reply b (record { entry = e; words = w })
+  pub reply-refused : (refusal (checks (view b) (record { entry = e; words = w })) ≡ 0 → ⊥)
+      → record { answer = refusal (checks (view b) (record { entry = e; words = w })); rounds = 0; book = b; words = w } ≡ reply b (record { entry = e; words = w })
   unfolding reply
-  refuses a r q n ne =
-      let f = step-refused (view b) x (λ z. ne (sym n ∙ z)) in
-      ap (λ (r : Applied). replied r w) q ∙ (λ z. record {
-        answer = (sym n ∙ sym (ap (λ (o : Outcome). o .answer) f)) z;
+  reply-refused ne =
+      let f = step-refused (view b) x ne in
+      λ z. record {
+        answer = sym (ap (λ (o : Outcome). o .answer) f) z;
         rounds = sym (ap (λ (o : Outcome). o .rounds) f) z;
         book = (v .packed ∙ sym (ap (λ (o : Outcome). pack (o .state)) f)) z;
         words = sym (ap (λ (o : Outcome). o .words) f) z;
-      })
+      }
+
+  pub refuses : (a : Answer) (r : Applied) → r ≡ record { answer = a; rounds = 0; book = b }
+      → refusal (checks (view b) (record { entry = e; words = w })) ≡ numberOf a → (numberOf a ≡ 0 → ⊥) → replied r w ≡ reply b (record { entry = e; words = w })
+  refuses a r q n ne =
+      ap (λ (r : Applied). replied r w) q
+      ∙ ap (λ k. record { answer = k; rounds = 0; book = b; words = w }) (sym n)
+      ∙ reply-refused (λ z. ne (sym n ∙ z))
 
   -- an acceptance
-  pub accepts : (o : Outcome) (r : Applied) (w′ : List ℕ) → refusal (checks (view b) (record { entry = e; words = w })) ≡ 0
+  pub accepts : (o : Outcome) (r : Reply) → refusal (checks (view b) (record { entry = e; words = w })) ≡ 0
       → accepted (view b) (record { entry = e; words = w }) ≡ o
-      → replied r w′ ≡ record { answer = o .answer; rounds = o .rounds; book = pack (o .state); words = o .words }
-      → replied r w′ ≡ reply b (record { entry = e; words = w })
+      → r ≡ record { answer = o .answer; rounds = o .rounds; book = pack (o .state); words = o .words }
+      → r ≡ reply b (record { entry = e; words = w })
   unfolding reply
-  accepts o r w′ n a q =
+  accepts o r n a q =
       q ∙ ap (λ (o : Outcome). record { answer = o .answer; rounds = o .rounds; book = pack (o .state); words = o .words }) (sym (step-accepted (view b) x n ∙ a))
 
   -- the checks that are left once 4, 5 and 3 are passed

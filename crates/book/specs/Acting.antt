@@ -1,13 +1,22 @@
 -- What the functions of one period need of it, and how their answers read.
 use Prim.Native.Nat.{ℕ, _+_, _-_, _*_, _≤_, _<_, _^_}
 use mathlib.Core.Path.{_≡_}
-use mathlib.Core.Bool.{Bool}
-use Rattle.exact.specs.Rows.{places, at}
+use mathlib.Core.Bool.{Bool, true, false, cond}
+use mathlib.Core.List.{List}
+use lib.Dec.{eqb}
+use lib.ListN.{length}
+use Rattle.exact.specs.Rows.{places, at, sum}
 use Rattle.settlement.specs.Month.{tiers}
 use Rattle.book.specs.Checks.{refusal}
 use Rattle.book.specs.Periods as period
+use Rattle.book.specs.Allowed.{allowed}
+use Rattle.book.specs.Kinds.{isOpen, receiptCents}
 use Rattle.book.specs.Rules.{periodChecks}
+use Rattle.book.specs.Step.{payoutWords}
+use Rattle.book.specs.Valid.{InBook}
+use Rattle.book.specs.Answers.{numberOf}
 use Rattle.book.specs.declared.acting.Change.{Change}
+use Rattle.book.specs.declared.affecting.Effect as affecting
 use Rattle.book.specs.declared.entries.Entry.{Entry}
 use Rattle.book.specs.declared.Period.{Period}
 
@@ -29,3 +38,38 @@ pub record Passes (n : ℕ) (e : Entry) (p : Period) : Type 0 where
 -- what a function hands back of a change
 abbrev pub changeOf : Change → period.Change
 changeOf c = record { rounds = c .rounds; period = c .period; pays = c .pays }
+
+-- what an entry makes of the period that it names, of the cents held and of the payout words
+pub record Effect : Type 0 where
+  pub answer : ℕ
+  pub rounds : ℕ
+  pub period : Period
+  pub held : ℕ
+  pub words : List ℕ
+
+-- an accepted entry pays what its period pays, out of what is held and its receipt; a refused one changes nothing
+unfoldable pub effect : ℕ → Entry → Bool → Period → ℕ → List ℕ → Effect
+effect n e barred p held words =
+    cond (eqb (refusal (periodChecks n barred e p)) 0)
+    (record {
+      answer = 0;
+      rounds = period.changed n e p .rounds;
+      period = period.changed n e p .period;
+      held = held + receiptCents e - sum (at (period.changed n e p .pays)) n;
+      words = payoutWords n (period.changed n e p .pays) words;
+    })
+    (record { answer = refusal (periodChecks n barred e p); rounds = 0; period = p; held = held; words = words })
+
+-- what is asked of the period, of the cents held and of the payout words
+pub record Affects (n : ℕ) (e : Entry) (p : Period) (held : ℕ) (words : List ℕ) : Type 0 where
+  pub many : n ≤ places
+  pub enough : n ≤ length words
+  pub not-open : isOpen e ≡ false
+  pub fields : allowed e ≡ true
+  pub in-book : InBook n p
+  pub within : period.holds n p ≤ held
+  pub fits : held + receiptCents e < 2 ^ 64
+
+-- 01's numbers and values of an effect, with the payout words as it leaves them
+abbrev pub effectOf : affecting.Effect → List ℕ → Effect
+effectOf r words = record { answer = numberOf (r .answer); rounds = r .rounds; period = r .period; held = r .held; words = words }

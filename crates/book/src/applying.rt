@@ -2,7 +2,7 @@
 ghost use mathlib.Core.Path.{_≡_};
 ghost use mathlib.Core.Bool.{true, false};
 ghost use Rattle.book.specs.Allowed.{allowed};
-ghost use Rattle.book.specs.Kinds.{periodOf, isOpen, receiptCents};
+ghost use Rattle.book.specs.Kinds.{periodOf, isOpen};
 ghost use Rattle.book.specs.State.{view};
 ghost use Rattle.book.specs.Rules.{Entered, barring};
 ghost use Rattle.book.specs.Step.{reply};
@@ -10,11 +10,9 @@ ghost use Rattle.book.specs.Valid.{Valid};
 ghost use Rattle.book.specs.Applying.{replied};
 use crate::Book;
 use crate::PERIODS;
-use crate::acting::change_period;
+use crate::affecting::apply_to_period;
 use crate::allowed::is_allowed;
-use crate::answering::period_answer;
 use crate::answers::Answer;
-use crate::answers::is_accepted;
 use crate::entries::Entry;
 use crate::entries::OPEN;
 use crate::entries::kind_of;
@@ -26,7 +24,6 @@ use crate::places::with_period;
 use crate::places::without_period;
 use exact::PLACES;
 use exact::put_cells;
-use exact::total;
 
 // The answer to an entry, the rounds of a settlement, and the book that it leaves.
 pub struct Applied {
@@ -68,35 +65,6 @@ fn is_open(e: Entry) -> bool
     ensures { λ r. ⌜ r ≡ isOpen e ⌝ }
 {
     kind_of(e) == OPEN
-}
-
-fn receipt_cents(e: Entry) -> u64
-    ensures { λ r. ⌜ r ≡ receiptCents e ⌝ }
-{
-    match e {
-        Entry::Open { period: _ } => 0,
-        Entry::Energy {
-            period: _,
-            participant: _,
-            side: _,
-            quantity: _,
-            price: _,
-        } => 0,
-        Entry::Amount {
-            period: _,
-            participant: _,
-            side: _,
-            tier: _,
-            cents: _,
-        } => 0,
-        Entry::Notice { period: _ } => 0,
-        Entry::Receipt {
-            period: _,
-            participant: _,
-            cents,
-        } => cents,
-        Entry::Settle { period: _ } => 0,
-    }
 }
 
 // Whether another period refuses the entry (14).
@@ -167,34 +135,27 @@ fn change_named(mut b: Book, e: Entry, words: &mut [u64]) -> Applied
     requires { ⌜ Valid b × Entered (view b) (record { entry = e; words = now words }) × (isOpen e ≡ false) ⌝ }
     ensures { λ r. ⌜ replied r (now (words .exit)) ≡ reply b (record { entry = e; words = now (words .entry) }) ⌝ }
 {
-    let n = b.n;
     let j = place(b, period_of(e));
     if b.count <= j {
         return refused(Answer::NotInBook, b);
     }
     let p = b.periods[j];
-    let a = period_answer(p, n, e, is_barred(b, e));
-    if !is_accepted(a) {
-        return refused(a, b);
-    }
-    let c = change_period(p, n, e);
-    let pays = c.pays;
-    put_cells(words, n, pays);
-    let held = b.held + receipt_cents(e) - total(pays, n);
-    let q = c.period;
-    if is_leaving(q, n) {
-        let next = without_period(b, j, held);
+    let r = apply_to_period(p, b.n, e, is_barred(b, e), b.held, words);
+    let q = r.period;
+    let answer = r.answer;
+    if is_leaving(q, b.n) {
+        let next = without_period(b, j, r.held);
         return Applied {
-            answer: Answer::Accepted,
-            rounds: c.rounds,
+            answer: answer,
+            rounds: r.rounds,
             book: next,
         };
     }
-    b.held = held;
+    b.held = r.held;
     b.periods[j] = q;
     Applied {
-        answer: Answer::Accepted,
-        rounds: c.rounds,
+        answer: answer,
+        rounds: r.rounds,
         book: b,
     }
 }

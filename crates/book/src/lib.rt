@@ -3,6 +3,7 @@ use exact::Row;
 use settlement::TierCells;
 
 mod acting;
+mod affecting;
 mod allowed;
 mod answering;
 mod answers;

@@ -1,6 +1,6 @@
 // The places of a book: the only functions that know how many there are.
 ghost use mathlib.Core.Path.{_≡_};
-ghost use Prim.Native.Nat.{_<_};
+ghost use Prim.Native.Nat.{_<_, min};
 ghost use mathlib.Core.List.{[], _∷_};
 ghost use lib.ListN.{length};
 ghost use Rattle.exact.specs.Rows.{places};
@@ -67,19 +67,19 @@ pub fn held(b: Book) -> u64
     b.held
 }
 
-// Where a period stands, or the count.
+// The first place that has a period of that number, or one not in use. The search goes through all places: their number
+// is fixed, and so the book is not copied for it.
 pub fn place(b: Book, number: u32) -> usize
     requires { ⌜ Valid b ⌝ }
-    ensures { λ r. ⌜ r ≡ find number (view b .periods) ⌝ }
+    ensures { λ r. ⌜ min r (b .count) ≡ find number (view b .periods) ⌝ }
 {
-    let count = b.count;
-    for k in 0..count {
+    for k in 0..PERIODS {
         let p = b.periods[k];
         if p.number == number {
             return k;
         }
     }
-    count
+    PERIODS
 }
 
 // Whether an earlier settled period has arrears of i.
@@ -87,7 +87,7 @@ pub fn has_earlier_arrears(b: Book, i: usize, number: u32) -> bool
     requires { ⌜ Valid b × (i < places) ⌝ }
     ensures { λ r. ⌜ r ≡ earlierArrears i number (view b .periods) ⌝ }
 {
-    for k in 0..b.count {
+    for k in 0..PERIODS {
         let p = b.periods[k];
         if has_arrears_before(p, i, number) {
             return true;

@@ -1,3 +1,4 @@
+use Rattle.book.specs.Applying.{replied}
 use Rattle.book.specs.Step.{payoutWords}
 use Rattle.book.specs.State.{pack, heldIn}
 use Rattle.book.specs.declared.Period.{Period}
@@ -64,7 +65,7 @@ returns-3 c =
     let above = rw (c .before .before .before .before .before .before .before .before .before .before .period-of .ensures) at (c .before .before .before .before .before .before .before .before .if1 .left) in
     let room : length (view b .periods) < mostPeriods = omega (arith, count-is (s .pre .0), c .before .before .before .before .before .before .if2 .left) in
     accepts (s .pre .0) (s .args .e) (s .args .words .now) (opened (view b) (periodOf (s .args .e)) (s .args .words .now))
-    (record { answer = Accepted; rounds = 0; book = c .with-period .result }) _
+    (replied (record { answer = Accepted; rounds = 0; book = c .with-period .result }) _)
     (to-open (s .pre .0) _ _ (s .pre .1) (s .pre .2) ∙ rw (lt-leb _ _ above, lt-leb _ _ room))
     (accepted-opens (view b) _ (record { is-open = s .pre .2; above = above; room = room }))
     (λ z. record {

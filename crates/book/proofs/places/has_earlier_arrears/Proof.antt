@@ -2,26 +2,26 @@ use Prim.Native.Nat.{_-_, _≤_}
 use mathlib.Core.Path.{_≡_, refl, sym, _∙_}
 use native.Mathlib.Omega.{arith}
 use lib.ListN.{drop}
-use Rattle.book.specs.State.{view, earlierArrears}
-use Rattle.book.proofs.Packing.{count-few, earlier-more, earlier-end}
+use Rattle.book.specs.State.{view, mostPeriods, earlierArrears}
+use Rattle.book.proofs.Packing.{earlier-more, earlier-end}
 use borrow.Author.Needs.{needs}
 use Rattle.book.proofs.places.has_earlier_arrears.Statement.{statement}
 use Rattle.book.proofs.places.has_earlier_arrears.Tie as tie
 
 abbrev Inv-loop : tie.InvT-loop
-Inv-loop i number b k₀ k-end k = (k ≤ b .count) × (earlierArrears i number (view b .periods) ≡ earlierArrears i number (drop k (view b .periods)))
+Inv-loop i number b k₀ k = (k ≤ mostPeriods) × (earlierArrears i number (view b .periods) ≡ earlierArrears i number (drop k (view b .periods)))
 
 abbrev μ-loop : tie.MeasureT-loop
-μ-loop i number b k₀ k-end k = b .count - k
+μ-loop i number b k₀ k = mostPeriods - k
 
 loop-holds : tie.Need-loop-holds Inv-loop μ-loop
 loop-holds c = (omega arith, refl)
 
 mul-p : tie.Need-mul-p Inv-loop μ-loop
-mul-p c = omega (arith, count-few (c .before .before .pre .0))
+mul-p c = omega arith
 
 element-copy-out-p : tie.Need-element-copy-out-p Inv-loop μ-loop
-element-copy-out-p c = omega (arith, count-few (c .before .before .pre .0))
+element-copy-out-p c = omega arith
 
 has-arrears-before-requires : tie.Need-has-arrears-before-requires Inv-loop μ-loop
 has-arrears-before-requires c κs = search needs

@@ -1,0 +1,83 @@
+// One entry and the period that it names: the answer, and on acceptance the change, the cents held and the payout words.
+ghost use mathlib.Core.Path.{_≡_};
+ghost use Rattle.book.specs.Kinds.{receiptCents};
+ghost use Rattle.book.specs.Acting.{Affects, effect, effectOf};
+use crate::Period;
+use crate::acting::change_period;
+use crate::answering::period_answer;
+use crate::answers::Answer;
+use crate::answers::is_accepted;
+use crate::entries::Entry;
+use exact::put_cells;
+use exact::total;
+
+// The answer, the rounds of a settlement, the period and the cents held afterwards.
+pub struct Effect {
+    pub answer: Answer,
+    pub rounds: u64,
+    pub period: Period,
+    pub held: u64,
+}
+
+fn receipt_cents(e: Entry) -> u64
+    ensures { λ r. ⌜ r ≡ receiptCents e ⌝ }
+{
+    match e {
+        Entry::Open { period: _ } => 0,
+        Entry::Energy {
+            period: _,
+            participant: _,
+            side: _,
+            quantity: _,
+            price: _,
+        } => 0,
+        Entry::Amount {
+            period: _,
+            participant: _,
+            side: _,
+            tier: _,
+            cents: _,
+        } => 0,
+        Entry::Notice { period: _ } => 0,
+        Entry::Receipt {
+            period: _,
+            participant: _,
+            cents,
+        } => cents,
+        Entry::Settle { period: _ } => 0,
+    }
+}
+
+// Applies an entry to the period that it names; `barred` is whether another period refuses a receipt (14), `held` what
+// the book holds.
+pub fn apply_to_period(
+    p: Period,
+    n: usize,
+    e: Entry,
+    barred: bool,
+    held: u64,
+    words: &mut [u64],
+) -> Effect
+    requires { ⌜ Affects n e p held (now words) ⌝ }
+    ensures { λ r. ⌜ effectOf r (now (words .exit)) ≡ effect n e barred p held (now (words .entry)) ⌝ }
+{
+    let answer = period_answer(p, n, e, barred);
+    if !is_accepted(answer) {
+        return Effect {
+            answer: answer,
+            rounds: 0,
+            period: p,
+            held: held,
+        };
+    }
+    let c = change_period(p, n, e);
+    let pays = c.pays;
+    put_cells(words, n, pays);
+    let q = c.period;
+    Effect {
+        answer: answer,
+        rounds: c.rounds,
+        period: q,
+        held: held + receipt_cents(e) - total(pays, n),
+    }
+}
