@@ -1,6 +1,6 @@
 -- What an entry makes of the period that it names is what the definitions make of the book.
 use Prim.Native.Nat.{ℕ, _+_, _-_}
-use mathlib.Core.Path.{_≡_, sym, ap, subst, _∙_}
+use mathlib.Core.Path.{_≡_, refl, sym, ap, subst, _∙_}
 use mathlib.Core.Bool.{Bool, true, false, true≢false}
 use mathlib.Core.Logic.{⊎-elim}
 use mathlib.Core.List.{List}
@@ -13,9 +13,9 @@ use Rattle.exact.proofs.Cases.{eq-or-ne}
 use Rattle.book.specs.Checks.{refusal}
 use Rattle.book.specs.Kinds.{receiptCents}
 use Rattle.book.specs.Periods.{leaves, changed}
-use Rattle.book.specs.State.{view, pack, heldIn, noPeriod, removed}
+use Rattle.book.specs.State.{view, pack, centsHeld, heldIn, noPeriod, removed}
 use Rattle.book.specs.Rules.{periodChecks, barring}
-use Rattle.book.specs.Step.{payoutWords, reply}
+use Rattle.book.specs.Step.{payoutWords, Reply, reply}
 use Rattle.book.specs.Valid.{Sound}
 use Rattle.book.specs.Acting.{Effect, effect, Affects}
 use Rattle.book.specs.declared.entries.Entry.{Entry}
@@ -114,6 +114,16 @@ module _ {b : Book} {e : Entry} {w : List ℕ} {j : ℕ} (f : Found b e w j) whe
           words = payoutWords n (changed n e here .pays) w;
         }))
         (λ h l. absurd (stays-here l))
+
+    -- the answer, the payout words and the cents held of the reply, whether the period stays or leaves
+    pub reply-parts : let r = reply b (record { entry = e; words = w }) in (x .answer ≡ r .answer) × (x .words ≡ r .words) × (x .held ≡ centsHeld (r .book))
+    unfolding pack heldIn removed
+    reply-parts = go (leaves (b .n) (x .period)) refl
+      where
+        go : (t : Bool) → leaves (b .n) (x .period) ≡ t
+            → let r = reply b (record { entry = e; words = w }) in (x .answer ≡ r .answer) × (x .words ≡ r .words) × (x .held ≡ centsHeld (r .book))
+        go true l = let q = reply-leaves l in (ap (λ (r : Reply). r .answer) q, ap (λ (r : Reply). r .words) q, leaves-held l ∙ ap (λ (r : Reply). centsHeld (r .book)) q)
+        go false l = let q = reply-stays l in (ap (λ (r : Reply). r .answer) q, ap (λ (r : Reply). r .words) q, ap (λ (r : Reply). centsHeld (r .book)) q)
 
   pub found-affects : Affects (b .n) e (getD (b .periods) j noPeriod) (b .held) w
   found-affects = record {

@@ -10,7 +10,7 @@ use lib.Dec.{eqb, leb}
 use lib.ListN.{length, drop}
 use lib.Seq.{sets, sets-eq}
 use Rattle.book.specs.Fields.{bytes, fieldsAt, fieldBytes}
-use Rattle.book.specs.Kinds.{isOpen}
+use Rattle.book.specs.Kinds.{isOpen, isAmount}
 use Rattle.book.specs.Entries.{bodyLengths, bodyLength, unknown, layout, kindOf, fieldsOf, entryOf, bytesOf, size}
 use Rattle.book.specs.declared.entries.Entry.{Entry}
 use Rattle.book.specs.declared.entries.Entry.the-variants.{Open, Energy, Amount, Notice, Receipt, Settle}
@@ -100,3 +100,19 @@ kind-open (Amount k i side tier cents) = refl
 kind-open (Notice k) = refl
 kind-open (Receipt k i cents) = refl
 kind-open (Settle k) = refl
+
+pub kind-energy : (e : Entry) → kindOf e ≡ 2 → isAmount e ≡ true
+kind-energy (Open p) q = absurd (omega arith)
+kind-energy (Energy p i side quantity price) q = refl
+kind-energy (Amount p i side tier cents) q = refl
+kind-energy (Notice p) q = absurd (omega arith)
+kind-energy (Receipt p i cents) q = absurd (omega arith)
+kind-energy (Settle p) q = absurd (omega arith)
+
+pub kind-amount : (e : Entry) → (kindOf e ≡ 2 → ⊥) → eqb (kindOf e) 3 ≡ isAmount e
+kind-amount (Open p) q = refl
+kind-amount (Energy p i side quantity price) q = absurd (q refl)
+kind-amount (Amount p i side tier cents) q = refl
+kind-amount (Notice p) q = refl
+kind-amount (Receipt p i cents) q = refl
+kind-amount (Settle p) q = refl

@@ -27,4 +27,12 @@ mod Histories
 mod Replies
 mod Named
 mod Effects
+mod PaidLaws
+mod RunLaws
+pub mod RunValid
+mod PostingTurns
+mod PostingLaws
+mod RunTurns
+mod PostingSteps
 pub mod Demand3
+pub mod RunDemand3

@@ -1,10 +1,10 @@
 -- Laws of lists of periods: what holds of each, rising numbers, which periods are there, and where one stands.
-use Prim.Native.Nat.{ℕ, suc, _+_, _<_}
+use Prim.Native.Nat.{ℕ, zero, suc, _+_, _<_}
 use mathlib.Core.Path.{_≡_, refl, sym, subst, _∙_}
 use mathlib.Core.List.{List, [], _∷_, _++_}
 use mathlib.Core.Logic.{inl, inr}
 use native.Mathlib.Omega.{arith}
-use lib.ListN.{length, getD, take, drop}
+use lib.ListN.{length, getD, take, drop, set}
 use lib.Seq.{split-at}
 use Rattle.exact.proofs.Cases.{cases-eq}
 use Rattle.book.specs.State.{numbers, find, noPeriod, periodAt}
@@ -106,3 +106,10 @@ find-number k (p ∷ l) h =
 
 pub find-split : (k : ℕ) (l : List Period) → find k l < length l → l ≡ take (find k l) l ++ periodAt k l ∷ drop (suc (find k l)) l
 find-split k l h = split-at l (find k l) noPeriod h
+
+-- a period stored over one of its number is found where that one was
+pub find-set : (k : ℕ) (l : List Period) (j : ℕ) (p : Period) → p .number ≡ getD l j noPeriod .number → find k (set l j p) ≡ find k l
+unfolding find
+find-set k [] j p e = refl
+find-set k (q ∷ l) zero p e = rw e
+find-set k (q ∷ l) (suc j) p e = rw (find-set k l j p e)

@@ -15,6 +15,7 @@ use Rattle.book.specs.Periods.{monthOf, zeros, raised, amounted, withNot
 use Rattle.book.specs.Kinds.{isSettle}
 use Rattle.book.specs.Step.{payoutWords}
 use Rattle.book.specs.Valid.{Sound}
+use Rattle.book.specs.Acting.{Placed}
 use Rattle.book.specs.Log.{Account, entered, addsBy, addsTo, receivedFrom, monthIn}
 use Rattle.book.specs.declared.Stage.{Stage}
 use Rattle.book.specs.declared.Stage.the-variants.{Opened, Noticed, Settled}
@@ -22,7 +23,7 @@ use Rattle.book.specs.declared.entries.Entry.{Entry}
 use Rattle.book.specs.declared.entries.Entry.the-variants.{Notice, Receipt}
 use Rattle.book.specs.declared.Period.{Period}
 use Rattle.book.proofs.CellLaws.{zeros-at, raised-at, raised-tier}
-use Rattle.book.proofs.Passing.{Placed, PassesAmount}
+use Rattle.book.proofs.Passing.{PassesAmount}
 use Rattle.book.proofs.LogLaws.{month-still, late-unsettled, received-grows}
 
 -- before its settle entry no receipt is late

@@ -14,6 +14,9 @@ pub mod Valid
 pub mod Answers
 pub mod Acting
 pub mod Applying
+pub mod Running
+pub mod Postings
 pub mod Log
 pub mod Demand3
+pub mod RunDemand3
 pub mod Examples

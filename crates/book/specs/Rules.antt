@@ -15,6 +15,7 @@ use Rattle.book.specs.Periods.{isOpened, isNoticed, isSettled, sideTotal
 use Rattle.book.specs.State.{State, mostPeriods, find, periodAt, earlierArrears}
 use Rattle.book.specs.declared.entries.Entry.{Entry}
 use Rattle.book.specs.declared.entries.Entry.the-variants.{Open, Energy, Amount, Notice, Receipt, Settle}
+use Rattle.book.specs.declared.Stage.{Stage}
 use Rattle.book.specs.declared.Period.{Period}
 
 -- an entry, and the payout words that are lent with it
@@ -26,13 +27,17 @@ pub record Input : Type 0 where
 unfoldable pub receivable : Period → ℕ → ℕ
 receivable p i = cond (isSettled (p .stage)) (at (p .arrears) i) (at (p .payable) i - at (p .received) i)
 
--- n participants, and the period that the entry names; kinds 2 and 3: 12, 9 unless before notice, 11
-abbrev pub amountChecks : ℕ → Period → ℕ → ℕ → ℕ → List Check
-amountChecks n p i side cents =
+-- n participants; cents added to a side of a total: 12, 9 unless before notice, 11
+abbrev pub sideChecks : ℕ → Stage → ℕ → ℕ → ℕ → List Check
+sideChecks n stage total i cents =
     on (leb n i) 12
-    ∷ on (not (isOpened (p .stage))) 9
-    ∷ on (ltb sideLimit (sideTotal n p side + cents)) 11
+    ∷ on (not (isOpened stage)) 9
+    ∷ on (ltb sideLimit (total + cents)) 11
     ∷ []
+
+-- kinds 2 and 3, on the period that the entry names
+abbrev pub amountChecks : ℕ → Period → ℕ → ℕ → ℕ → List Check
+amountChecks n p i side cents = sideChecks n (p .stage) (sideTotal n p side) i cents
 
 -- kind 4: 9 unless before notice, 10
 abbrev pub noticeChecks : ℕ → Period → List Check

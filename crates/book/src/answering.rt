@@ -6,10 +6,11 @@ ghost use Rattle.exact.specs.Rows.{places};
 ghost use Rattle.settlement.specs.Month.{sideLimit};
 ghost use Rattle.book.specs.Checks.{refusal};
 ghost use Rattle.book.specs.Allowed.{allowed};
-ghost use Rattle.book.specs.Rules.{receivable, amountChecks, noticeChecks, receiptChecks, settleChecks, periodChecks};
+ghost use Rattle.book.specs.Rules.{receivable, sideChecks, noticeChecks, receiptChecks, settleChecks, periodChecks};
 ghost use Rattle.book.specs.Valid.{Sound};
 ghost use Rattle.book.specs.Answers.{numberOf};
 use crate::Period;
+use crate::Stage;
 use crate::answers::Answer;
 use crate::entries::Entry;
 use crate::periods::is_noticed;
@@ -20,19 +21,18 @@ use exact::excess;
 
 const SIDE_LIMIT: u64 = 10_000_000_000_000;
 
-// 12, 9, 11.
-fn amount_answer(p: Period, n: usize, i: usize, side: usize, cents: u64) -> Answer
-    requires { ⌜ Sound n p × (side < 2) × (cents ≤ sideLimit) ⌝ }
-    ensures { λ r. ⌜ numberOf r ≡ refusal (amountChecks n p i side cents) ⌝ }
+// 12, 9, 11: cents added to a side of that total, in a period at that stage.
+pub fn amount_answer(stage: Stage, total: u64, n: usize, i: usize, cents: u64) -> Answer
+    requires { ⌜ (total ≤ sideLimit) × (cents ≤ sideLimit) ⌝ }
+    ensures { λ r. ⌜ numberOf r ≡ refusal (sideChecks n stage total i cents) ⌝ }
 {
     if n <= i {
         return Answer::NotAParticipant;
     }
-    let s = p.stage;
-    if !is_opened(s) {
+    if !is_opened(stage) {
         return Answer::WrongStage;
     }
-    if SIDE_LIMIT < p.totals[side] + cents {
+    if SIDE_LIMIT < total + cents {
         return Answer::PastBound;
     }
     Answer::Accepted
@@ -111,8 +111,10 @@ pub fn period_answer(p: Period, n: usize, e: Entry, barred: bool) -> Answer
             quantity,
             price,
         } => {
+            let stage = p.stage;
+            let on = side as usize;
             let cents = energy_cents(quantity as u64, price as u64);
-            amount_answer(p, n, participant as usize, side as usize, cents)
+            amount_answer(stage, p.totals[on], n, participant as usize, cents)
         }
         Entry::Amount {
             period: _,
@@ -120,7 +122,11 @@ pub fn period_answer(p: Period, n: usize, e: Entry, barred: bool) -> Answer
             side,
             tier: _,
             cents,
-        } => amount_answer(p, n, participant as usize, side as usize, cents),
+        } => {
+            let stage = p.stage;
+            let on = side as usize;
+            amount_answer(stage, p.totals[on], n, participant as usize, cents)
+        }
         Entry::Notice { period: _ } => notice_answer(p, n),
         Entry::Receipt {
             period: _,

@@ -32,7 +32,7 @@ pub struct Applied {
     pub book: Book,
 }
 
-fn period_of(e: Entry) -> u32
+pub fn period_of(e: Entry) -> u32
     ensures { λ r. ⌜ r ≡ periodOf e ⌝ }
 {
     match e {
@@ -61,14 +61,14 @@ fn period_of(e: Entry) -> u32
     }
 }
 
-fn is_open(e: Entry) -> bool
+pub fn is_open(e: Entry) -> bool
     ensures { λ r. ⌜ r ≡ isOpen e ⌝ }
 {
     kind_of(e) == OPEN
 }
 
 // Whether another period refuses the entry (14).
-fn is_barred(b: Book, e: Entry) -> bool
+pub fn is_barred(b: Book, e: Entry) -> bool
     requires { ⌜ Valid b × (allowed e ≡ true) ⌝ }
     ensures { λ r. ⌜ r ≡ barring e (view b .periods) ⌝ }
 {

@@ -33,8 +33,12 @@ pub enum Entry {
     },
 }
 
-// The kind of an open entry.
+// Kinds that are told apart by their number.
 pub const OPEN: usize = 1;
+
+pub const ENERGY: usize = 2;
+
+pub const AMOUNT: usize = 3;
 
 // One more than the highest kind; there is no kind 0.
 pub const KINDS: usize = 7;

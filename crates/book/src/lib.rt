@@ -11,9 +11,12 @@ mod applying;
 mod entries;
 mod feed;
 mod fields;
+mod lines;
 mod periods;
 mod places;
+mod postings;
 mod reader;
+mod runs;
 mod writer;
 
 pub use answers::Answer;
@@ -25,11 +28,13 @@ pub use feed::Feed;
 pub use feed::feed_at;
 pub use feed::next_entry;
 pub use feed::read_next;
+pub use lines::LINE;
 pub use places::Made;
 pub use places::held;
 pub use places::new;
 pub use reader::Reading;
-pub use reader::read_entry;
+pub use runs::Ran;
+pub use runs::run;
 pub use writer::Writing;
 pub use writer::write_entry;
 

@@ -67,8 +67,8 @@ pub fn held(b: Book) -> u64
     b.held
 }
 
-// The first place that has a period of that number, or one not in use. The search goes through all places: their number
-// is fixed, and so the book is not copied for it.
+// The first place that has a period of that number, or one behind those in use. The search goes through all places:
+// their number is fixed, and so the book is not copied for it.
 pub fn place(b: Book, number: u32) -> usize
     requires { ⌜ Valid b ⌝ }
     ensures { λ r. ⌜ min r (b .count) ≡ find number (view b .periods) ⌝ }

@@ -9,7 +9,7 @@ use native.Mathlib.Nat.{eq-or-lt-of-le, le-of-suc-le-suc, not-suc-le-zero, suc-i
 use native.Mathlib.Numerals.{add-one}
 use lib.Dec.{eqb}
 use lib.ListN.{getD, drop, set, length, length-append, length-drop, List·getD-append, replicate, getD-replicate}
-use lib.Seq.{drop-cons, set-at, getD-at, set-getD}
+use lib.Seq.{drop-cons, drop-at, set-at, getD-at, set-getD}
 use Rattle.exact.proofs.Cases.{cases-eq}
 use Rattle.exact.specs.Rows.{places, at, sum, largest, table, filled, cells}
 
@@ -174,6 +174,11 @@ module _ {A : Type 0} (f : ℕ → A) where
   filled-same z (suc n) d h e =
       rw (add-one n) at (sym (filled-more z n d h))
       ∙ rw (filled-same z n d (omega arith) (λ i k. e i (omega arith)), e n (omega arith)) (set-getD d n z)
+
+  -- filled twice is filled once
+  pub filled-again : (n : ℕ) (d : List A) → filled f n (filled f n d) ≡ filled f n d
+  unfolding filled
+  filled-again n d = ap (λ (l : List A). table f n ++ l) (drop-at (table f n) (drop n d) n (table-length n))
 
   pub filled-cong : (g : ℕ → A) (n : ℕ) (d : List A) → ((i : ℕ) → i < n → f i ≡ g i) → filled f n d ≡ filled g n d
   unfolding filled

@@ -1,6 +1,5 @@
-use Prim.Native.Nat.{ℕ, _+_, _-_, _^_, _<_, _≤_}
+use Prim.Native.Nat.{ℕ, _+_, _-_, _≤_}
 use mathlib.Core.Path.{_≡_, sym, ap, _∙_}
-use mathlib.Core.List.{List}
 use native.Mathlib.Omega.{arith}
 use borrow.Author.Needs.{needs}
 use borrow.Author.Tests.{eqb-true, eqb-false, not-true, not-false}
@@ -12,7 +11,6 @@ use Rattle.book.specs.Periods as period
 use Rattle.book.specs.Rules.{periodChecks}
 use Rattle.book.specs.Step.{payoutWords}
 use Rattle.book.proofs.EntryChanges.{entry-changes, change-cents}
-use Rattle.book.proofs.Bounds.{holds-bound}
 use Rattle.book.proofs.Effects.{effect-accepted, effect-refused}
 use Rattle.book.proofs.affecting.apply_to_period.Statement.{statement}
 use Rattle.book.proofs.affecting.apply_to_period.Tie as tie

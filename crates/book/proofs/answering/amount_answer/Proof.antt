@@ -1,8 +1,6 @@
 use borrow.Author.Needs.{needs}
 use mathlib.Core.Path.{sym, _∙_}
-use native.Mathlib.Omega.{arith}
 use borrow.Author.Tests.{lt-ltb, le-ltb, lt-leb, le-leb, not-true, not-false}
-use Rattle.book.proofs.ChangeLaws.{side-within}
 use Rattle.book.proofs.answering.amount_answer.Statement.{statement}
 use Rattle.book.proofs.answering.amount_answer.Tie as tie
 
@@ -15,46 +13,19 @@ is-opened-requires c κs = search needs
 returns-2 : tie.Need-returns-2
 returns-2 c = simp (lt-leb _ _ (c .before .before .if1 .left), sym (c .before .is-opened .ensures) ∙ not-true _ (c .if2 .taken))
 
-mul-if3 : tie.Need-mul-if3
-mul-if3 c = search needs
-
-element-copy-out-if3 : tie.Need-element-copy-out-if3
-element-copy-out-if3 c = search needs
-
 add-if3 : tie.Need-add-if3
-add-if3 c =
-    let s = c .before .before .before .before in
-    omega (arith, s .pre .0 .kept (s .args .side) (s .pre .1), side-within _ _ (s .pre .0) (s .args .side))
+add-if3 c = search needs
 
 returns-3 : tie.Need-returns-3
 returns-3 c =
-    let b = c .before .before in
-    let s = b .before .before .before in
-    simp (
-      lt-leb _ _ (b .before .before .if1 .left),
-      sym (b .before .is-opened .ensures) ∙ not-false _ (b .if2 .left),
-      lt-ltb _ _ (rw (s .pre .0 .kept (s .args .side) (s .pre .1)) at (c .if3 .taken)),
-    )
+    let b = c .before in
+    simp (lt-leb _ _ (b .before .before .if1 .left), sym (b .before .is-opened .ensures) ∙ not-false _ (b .if2 .left), lt-ltb _ _ (c .if3 .taken))
 
 returns-4 : tie.Need-returns-4
 returns-4 c =
-    let b = c .before .before in
-    let s = b .before .before .before in
-    simp (
-      lt-leb _ _ (b .before .before .if1 .left),
-      sym (b .before .is-opened .ensures) ∙ not-false _ (b .if2 .left),
-      le-ltb _ _ (rw (s .pre .0 .kept (s .args .side) (s .pre .1)) at (c .if3 .left)),
-    )
+    let b = c .before in
+    simp (lt-leb _ _ (b .before .before .if1 .left), sym (b .before .is-opened .ensures) ∙ not-false _ (b .if2 .left), le-ltb _ _ (c .if3 .left))
 
 pub amount-answer-spec : {M : Type 1} → statement M
 amount-answer-spec =
-    tie.close
-    (tie.spec
-    returns
-    is-opened-requires
-    returns-2
-    mul-if3
-    element-copy-out-if3
-    add-if3
-    returns-3
-    returns-4)
+    tie.close (tie.spec returns is-opened-requires returns-2 add-if3 returns-3 returns-4)

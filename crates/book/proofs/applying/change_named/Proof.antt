@@ -1,21 +1,15 @@
-use Prim.Native.Nat.{ℕ, _<_, _^_}
-use mathlib.Core.Path.{_≡_, sym, ap, subst, _∙_}
-use mathlib.Core.Bool.{true, false}
-use mathlib.Core.List.{List}
+use mathlib.Core.Path.{_≡_, sym, ap, _∙_}
 use native.Mathlib.Omega.{arith}
 use borrow.Author.Needs.{needs}
 use lib.ListN.{getD}
-use Rattle.exact.specs.Rows.{at, sum}
-use Rattle.book.specs.Periods.{isSettled, leaves}
-use Rattle.book.specs.State.{view, pack, heldIn, noPeriod, removed}
+use Rattle.exact.specs.Rows.{at}
+use Rattle.book.specs.State.{view, noPeriod}
 use Rattle.book.specs.Rules.{barring}
-use Rattle.book.specs.Step.{reply}
-use Rattle.book.specs.Valid.{Sound}
 use Rattle.book.specs.Answers.{numberOf}
 use Rattle.book.specs.Acting.{effect, effectOf}
 use Rattle.book.specs.declared.answers.Answer.the-variants.{NotInBook}
 use Rattle.book.specs.declared.Book.{Book}
-use Rattle.book.proofs.Packing.{count-is, count-few, put}
+use Rattle.book.proofs.Packing.{count-is, count-few}
 use Rattle.book.proofs.Bounds.{arrears-bound}
 use Rattle.book.proofs.Replies.{refuses, not-found}
 use Rattle.book.proofs.Named.{Found}

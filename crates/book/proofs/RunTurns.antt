@@ -1,0 +1,121 @@
+-- A turn of the block run: an entry that names a period in the book, and a run of energy and amounts.
+use Prim.Native.Nat.{ℕ, zero, suc, _+_, _-_, _≤_}
+use mathlib.Core.Path.{_≡_, sym, ap, subst, subst₂, _∙_}
+use mathlib.Core.Bool.{Bool, true, false, cond}
+use mathlib.Core.Logic.{⊎-elim}
+use mathlib.Core.List.{List, [], _∷_}
+use native.Mathlib.Omega.{arith}
+use borrow.Author.Tests.{eq-eqb}
+use lib.Dec.{eqb}
+use lib.ListN.{length, getD}
+use lib.Seq.{sets}
+use Rattle.exact.specs.Rows.{at, sum}
+use Rattle.exact.proofs.Cases.{cases}
+use Rattle.book.specs.Checks.{refusal}
+use Rattle.book.specs.Kinds.{periodOf}
+use Rattle.book.specs.Periods.{changed}
+use Rattle.book.specs.Reading.{ReadOutcome, reading}
+use Rattle.book.specs.State.{view, noPeriod}
+use Rattle.book.specs.Rules.{barring, periodChecks}
+use Rattle.book.specs.Step.{reply}
+use Rattle.book.specs.Valid.{Valid}
+use Rattle.book.specs.Acting.{Effect, effect}
+use Rattle.book.specs.Running.{paidBy, run}
+use Rattle.book.specs.Postings.{NamedAt, AmountAt, Postings, posts, postings, cleared}
+use Rattle.book.specs.declared.entries.Entry.{Entry}
+use Rattle.book.specs.declared.Period.{Period}
+use Rattle.book.specs.declared.Book.{Book}
+use Rattle.book.proofs.ListLaws.{find-number}
+use Rattle.book.proofs.Packing.{count-is, read-at, put}
+use Rattle.book.proofs.PaidLaws.{Payable, accepted-fits}
+use Rattle.book.proofs.Named.{Found}
+use Rattle.book.proofs.Effects.{reply-parts}
+use Rattle.book.proofs.RunLaws.{read-or-none, Turn, Standing, goes-on}
+use Rattle.book.proofs.PostingLaws.{Taken, postings-run, postings-valid}
+
+-- the number of the period that an entry names
+named-number : {b : Book} {e : Entry} {room j : ℕ} → Valid b → NamedAt b e room j → getD (b .periods) j noPeriod .number ≡ periodOf e
+named-number {b} {e} {room} {j} v m =
+    ap (λ (p : Period). p .number) (read-at v j (m .used) ∙ ap (λ (k : ℕ). getD (view b .periods) k noPeriod) (m .at-place))
+    ∙ find-number (periodOf e) (view b .periods) (omega (arith, count-is v, m .used, m .at-place))
+
+module _ {b : Book} {e : Entry} {j : ℕ} (words : List ℕ) (v : Valid b) (m : NamedAt b e (length words) j) where
+  pub named-found : Found b e words j
+  named-found = record {
+    valid = v;
+    entered = record { some = m .some; enough = m .enough; fields = m .fields };
+    not-open = m .not-open;
+    at-place = m .at-place;
+    used = m .used;
+  }
+
+  named-taken : Taken b j words
+  named-taken = record { valid = v; some = m .some; enough = m .enough; used = m .used; at-place = rw (named-number v m) (m .at-place) }
+
+-- the words that an effect leaves fit, and the turn is the reply's
+module _ {b : Book} {e : Entry} {words : List ℕ} {j : ℕ} (f : Found b e words j) (x : Effect)
+    (q : x ≡ effect (b .n) e (barring e (view b .periods)) (getD (b .periods) j noPeriod) (b .held) words) where
+  pub effect-fits : x .answer ≡ 0 → Payable (b .n) (x .words)
+  effect-fits z = let p = reply-parts f x q in rw (p .1) (accepted-fits (f .valid) (record { entry = e; words = words }) (sym (p .0) ∙ z))
+
+  pub effect-turn : (lines : List ℕ) (wrote paid : ℕ) (b′ : Book) (lines′ : List ℕ) → b′ ≡ reply b (record { entry = e; words = words }) .book
+      → paid ≡ cond (eqb (x .answer) 0) (sum (at (x .words)) (b .n)) 0 → lines′ ≡ sets lines wrote (x .answer ∷ paid ∷ x .held ∷ [])
+      → Turn b e words lines wrote b′ paid (x .words) lines′
+  unfolding paidBy
+  effect-turn lines wrote paid b′ lines′ t y l =
+      let p = reply-parts f x q in
+      let r = reply b (record { entry = e; words = words }) in
+      let z : paid ≡ paidBy (b .n) r = y ∙ (λ i. cond (eqb (p .0 i) 0) (sum (at (p .1 i)) (b .n)) 0) in
+      (t, z, p .1, l ∙ (λ i. sets lines wrote (p .0 i ∷ z i ∷ p .2 i ∷ [])))
+
+-- the lines of postings take no more room than there is
+module _ (bytes : List ℕ) (n held : ℕ) where
+  within : (room : ℕ) (p : Period) (place : ℕ) (accepted : Bool) → length (postings bytes n held room p place accepted .lines) ≤ room
+  unfolding postings
+  within zero p place accepted = omega arith
+  within (suc zero) p place accepted = omega arith
+  within (suc (suc zero)) p place accepted = omega arith
+  within (suc (suc (suc room))) p place accepted = ⊎-elim
+      (λ none. rw none (omega arith))
+      (λ y. rw (y .1) (cases (λ (r : Postings). length (r .lines) ≤ suc (suc (suc room))) (posts (p .number) (y .0))
+      (λ _. cases (λ (r : Postings). suc (suc (suc (length (r .lines)))) ≤ suc (suc (suc room))) (eqb (refusal (periodChecks n false (y .0) p)) 0)
+      (λ _. omega (arith, within room (changed n (y .0) p .period) (reading bytes place .place) true))
+      (λ _. omega (arith, within room p (reading bytes place .place) accepted)))
+      (λ _. omega arith)))
+      (read-or-none bytes place)
+
+  -- the first entry has a line
+  some-line : (room : ℕ) (p : Period) (place : ℕ) (accepted : Bool) (e : Entry) → 3 ≤ room → reading bytes place .entry ≡ e ∷ [] → posts (p .number) e ≡ true
+      → 3 ≤ length (postings bytes n held room p place accepted .lines)
+  unfolding postings
+  some-line zero p place accepted e h q y = absurd (omega arith)
+  some-line (suc zero) p place accepted e h q y = absurd (omega arith)
+  some-line (suc (suc zero)) p place accepted e h q y = absurd (omega arith)
+  some-line (suc (suc (suc room))) p place accepted e h q y = rw (q, y) (omega arith)
+
+module _ (bytes : List ℕ) (b₀ : Book) (from : ℕ) (words₀ before : List ℕ) {b : Book} {place : ℕ} {words lines : List ℕ} {wrote : ℕ}
+    (s : Standing bytes b₀ from words₀ before b place words lines wrote) {j : ℕ} (a : AmountAt b bytes place (length words) j) where
+  abbrev x : Postings
+  x = postings bytes (b .n) (b .held) (length lines - wrote) (getD (b .periods) j noPeriod) place false
+
+  -- the period, the place, the payout words and the lines are those of the postings
+  pub amounts-on : (period : Period) (next : ℕ) (accepted : Bool) (wrote′ : ℕ) (lines′ words′ : List ℕ)
+      → (let x = postings bytes (b .n) (b .held) (length lines - wrote) (getD (b .periods) j noPeriod) place false in
+      (period ≡ x .period) × (next ≡ x .place) × (accepted ≡ x .accepted) × (wrote′ ≡ wrote + length (x .lines)) × (lines′ ≡ sets lines wrote (x .lines)))
+      → words′ ≡ cleared accepted (b .n) words → Standing bytes b₀ from words₀ before (put b j period (b .held)) next words′ lines′ wrote′
+  amounts-on period next accepted wrote′ lines′ words′ q w =
+      let t = named-taken words (s .valid) (a .named) in
+      let e = w ∙ ap (λ (c : Bool). cleared c (b .n) words) (q .2) in
+      subst (λ (p : Period). Standing bytes b₀ from words₀ before (put b j p (b .held)) next words′ lines′ wrote′) (sym (q .0))
+      (subst (λ (k : ℕ). Standing bytes b₀ from words₀ before (put b j (x .period) (b .held)) k words′ lines′ wrote′) (sym (q .1))
+      (subst (λ (k : ℕ). Standing bytes b₀ from words₀ before (put b j (x .period) (b .held)) (x .place) words′ lines′ k) (sym (q .3))
+      (subst₂ (λ (l v : List ℕ). Standing bytes b₀ from words₀ before (put b j (x .period) (b .held)) (x .place) v l (wrote + length (x .lines))) (sym (q .4)) (sym e)
+      (goes-on bytes b₀ from words₀ before s (x .lines) (put b j (x .period) (b .held)) (x .place) (cleared (x .accepted) (b .n) words)
+      (postings-valid bytes (length lines - wrote) b j place words t)
+      (omega (arith, s .room, within bytes (b .n) (b .held) (length lines - wrote) (getD (b .periods) j noPeriod) place false))
+      (postings-run bytes (length lines - wrote) b j place words t)))))
+
+  pub amounts-some : 3 ≤ length lines - wrote → 3 ≤ length (postings bytes (b .n) (b .held) (length lines - wrote) (getD (b .periods) j noPeriod) place false .lines)
+  amounts-some h = some-line bytes (b .n) (b .held) (length lines - wrote) (getD (b .periods) j noPeriod) place false (a .entry) h
+      (ap (λ (o : ReadOutcome). o .entry) (a .read))
+      (rw (eq-eqb (periodOf (a .entry)) (getD (b .periods) j noPeriod .number) (sym (named-number (s .valid) (a .named)))) (a .amount))

@@ -1,0 +1,288 @@
+use Prim.Native.Nat.{_+_, _-_, _≤_}
+use mathlib.Core.Path.{_≡_, refl, sym, ap, subst, _∙_}
+use mathlib.Core.List.{[], _∷_}
+use mathlib.Core.Logic.{⊎-elim}
+use native.Mathlib.Omega.{arith}
+use borrow.Author.Needs.{needs}
+use denote.Ref.{now}
+use lib.ListN.{length, getD}
+use lib.Seq.{sets}
+use Rattle.book.specs.Reading.{reading}
+use Rattle.book.specs.State.{view, noPeriod}
+use Rattle.book.specs.Rules.{barring}
+use Rattle.book.specs.Step.{Reply, reply}
+use Rattle.book.specs.Acting.{effect, effectOf}
+use Rattle.book.specs.Postings.{NamedAt, AmountAt, Decides}
+use Rattle.book.proofs.Packing.{count-is, count-few, read-in-book}
+use Rattle.book.proofs.Bounds.{arrears-bound}
+use Rattle.book.proofs.Named.{Found}
+use Rattle.book.proofs.Effects.{found-affects, effect-sound, reply-stays, leaves-held, reply-leaves}
+use Rattle.book.proofs.RunLaws.{Turn, Standing, begins, full-ends, unread-ends, turn-on, turn-ends}
+use Rattle.book.proofs.RunTurns.{named-found, effect-fits, effect-turn, amounts-on, amounts-some}
+use Rattle.book.proofs.runs.run.Statement.{statement}
+use Rattle.book.proofs.runs.run.Tie as tie
+
+abbrev Inv-loop : tie.InvT-loop
+Inv-loop bytes from words₀ lines₀ b₀ place₀ wrote₀ words lines b place wrote = Standing bytes b₀ from words₀ lines₀ b place words lines wrote × (length words ≡ length words₀)
+
+abbrev μ-loop : tie.MeasureT-loop
+μ-loop bytes from words₀ lines₀ b₀ place₀ wrote₀ words lines b place wrote = length lines - wrote
+
+-- what the way of the entry says of it
+amount-at : (c : tie.After-known-told Inv-loop μ-loop) → let l = c .before .before .before .before .before .loop in
+    AmountAt (l .b) (c .before .before .before .before .before .before .before .before .before .args .bytes .now) (l .place) (length (l .words)) (c .before .j .given .0 .0)
+amount-at c =
+    let l = c .before .before .before .before .before .loop in
+    subst (Decides (l .b) (c .before .before .before .before .before .before .before .before .before .args .bytes .now) (l .place) (length (l .words))) (c .before .j .given .1) (c .before .before .before .way-at .ensures)
+
+named-at : (c : tie.After-known-told2 Inv-loop μ-loop) → let l = c .before .before .before .before .before .loop in let x = c .before .j2 .given .0 in
+    (reading (c .before .before .before .before .before .before .before .before .before .args .bytes .now) (l .place) ≡ record { answer = 0; place = x .1 .1 .0; entry = x .1 .0 ∷ [] }) × NamedAt (l .b) (x .1 .0) (length (l .words)) (x .0)
+named-at c =
+    let l = c .before .before .before .before .before .loop in
+    subst (Decides (l .b) (c .before .before .before .before .before .before .before .before .before .args .bytes .now) (l .place) (length (l .words))) (c .before .j2 .given .1) (c .before .before .before .way-at .ensures)
+
+other-at : (c : tie.After-known-told3 Inv-loop μ-loop) → let l = c .before .before .before .before .before .loop in let x = c .before .entry .given .0 in
+    reading (c .before .before .before .before .before .before .before .before .before .args .bytes .now) (l .place) ≡ record { answer = 0; place = x .1 .0; entry = x .0 ∷ [] }
+other-at c =
+    let l = c .before .before .before .before .before .loop in
+    subst (Decides (l .b) (c .before .before .before .before .before .before .before .before .before .args .bytes .now) (l .place) (length (l .words))) (c .before .entry .given .1) (c .before .before .before .way-at .ensures)
+
+-- the period that an entry names was found, and what became of it
+found : (c : tie.After-known-told2 Inv-loop μ-loop) → let l = c .before .before .before .before .before .loop in let x = c .before .j2 .given .0 in Found (l .b) (x .1 .0) (l .words) (x .0)
+found c = let l = c .before .before .before .before .before .loop in named-found (l .words) (l .inv .0 .valid) (named-at c .1)
+
+affected : (c : tie.After-apply-to-period Inv-loop μ-loop) → let l = c .before .before .before .before .before .before .before .before .before .loop in let x = c .before .before .before .before .before .j2 .given .0 in
+    effectOf (c .apply-to-period .result) (c .apply-to-period .last .1 .1 .1 .1 .1 .0)
+    ≡ effect (l .b .n) (x .1 .0) (barring (x .1 .0) (view (l .b) .periods)) (getD (l .b .periods) (x .0) noPeriod) (l .b .held) (l .words)
+affected c = rw (c .before .before .is-barred .ensures) at (c .apply-to-period .ensures)
+
+-- the book that it leaves is the reply's, whether the period stays or leaves
+left-book : (c : tie.Joined1 Inv-loop μ-loop) → let l = c .before .before .before .before .before .before .before .before .before .before .before .before .before .before .before .before .before .before .before .before .before .loop in let x = c .before .before .before .before .before .before .before .before .before .before .before .before .before .before .before .before .before .j2 .given .0 in
+    c .if1 .b ≡ reply (l .b) (record { entry = x .1 .0; words = l .words }) .book
+left-book c =
+    let f = found (c .before .before .before .before .before .before .before .before .before .before .before .before .before .before .before .before) in
+    let q = affected (c .before .before .before .before .before .before .before .before .before .before .before .before) in
+    ⊎-elim
+    (λ w. w .2 ∙ w .1 .ensures ∙ ap (λ (r : Reply). r .book) (reply-leaves f _ q (sym (c .before .is-leaving .ensures) ∙ w .0 .taken)))
+    (λ w. w .1 ∙ ap (λ (r : Reply). r .book) (reply-stays f _ q (sym (c .before .is-leaving .ensures) ∙ w .0 .left)))
+    (c .if1 .came)
+
+named-turn : (c : tie.Joined1 Inv-loop μ-loop) → let l = c .before .before .before .before .before .before .before .before .before .before .before .before .before .before .before .before .before .before .before .before .before .loop in let x = c .before .before .before .before .before .before .before .before .before .before .before .before .before .before .before .before .before .j2 .given .0 in
+    Turn (l .b) (x .1 .0) (l .words) (l .lines) (l .wrote) (c .if1 .b) (c .before .before .before .before .before .before .before .paid-by .result) (c .before .before .before .before .before .before .before .before .before .before .before .before .apply-to-period .last .1 .1 .1 .1 .1 .0) (c .before .before .before .before .put-line .last .0)
+named-turn c =
+    let l = c .before .before .before .before .before .before .before .before .before .before .before .before .before .before .before .before .before .before .before .before .before .loop in
+    effect-turn (found (c .before .before .before .before .before .before .before .before .before .before .before .before .before .before .before .before)) _ (affected (c .before .before .before .before .before .before .before .before .before .before .before .before)) (l .lines) (l .wrote) _ _ _ (left-book c) (c .before .before .before .before .before .before .before .paid-by .ensures)
+    (c .before .before .before .before .put-line .ensures ∙ (λ z. sets (l .lines) (l .wrote) (c .before .before .before .before .before .number .ensures z ∷ c .before .before .before .before .before .before .before .paid-by .result ∷ c .before .before .before .before .before .before .before .before .before .before .before .before .apply-to-period .result .held ∷ [])))
+
+loop-holds : tie.Need-loop-holds Inv-loop μ-loop
+loop-holds c = (begins _ _ _ _ _ (c .before .before .before .pre), refl)
+
+sub-loop : tie.Need-sub-loop Inv-loop μ-loop
+sub-loop c = c .loop .inv .0 .room
+
+way-at-requires : tie.Need-way-at-requires Inv-loop μ-loop
+way-at-requires c κs = c .before .loop .inv .0 .valid
+
+enum-known-j : tie.Need-enum-known-j Inv-loop μ-loop
+enum-known-j c = search needs
+
+mul-p : tie.Need-mul-p Inv-loop μ-loop
+mul-p c = omega (arith, count-few (c .before .before .before .before .before .loop .inv .0 .valid), amount-at c .named .used)
+
+element-copy-out-p : tie.Need-element-copy-out-p Inv-loop μ-loop
+element-copy-out-p c = omega (arith, count-few (c .before .before .before .before .before .loop .inv .0 .valid), amount-at c .named .used)
+
+post-amounts-requires : tie.Need-post-amounts-requires Inv-loop μ-loop
+post-amounts-requires c κs =
+    let l = c .before .before .before .before .before .before .before .loop in
+    (read-in-book (l .inv .0 .valid) _ (amount-at (c .before .before) .named .used) .sound, l .inv .0 .room)
+
+mul-q : tie.Need-mul-q Inv-loop μ-loop
+mul-q c = omega (arith, count-few (c .before .before .before .before .before .before .before .before .before .before .before .loop .inv .0 .valid), amount-at (c .before .before .before .before .before .before) .named .used)
+
+element-set-from-q : tie.Need-element-set-from-q Inv-loop μ-loop
+element-set-from-q c = omega (arith, count-few (c .before .before .before .before .before .before .before .before .before .before .before .loop .inv .0 .valid), amount-at (c .before .before .before .before .before .before) .named .used)
+
+clear-requires : tie.Need-clear-requires Inv-loop μ-loop
+clear-requires c κs =
+    let l = c .before .before .before .before .before .before .before .before .before .before .before .before .loop in
+    (l .inv .0 .valid .fit .many, amount-at (c .before .before .before .before .before .before .before) .named .enough)
+
+loop-less : tie.Need-loop-less Inv-loop μ-loop
+loop-less c =
+    let l = c .before .before .before .before .before .before .before .before .before .before .before .before .before .before .before .loop in
+    let p = c .before .before .before .before .before .before .before .post-amounts in
+    let some = amounts-some _ _ _ _ _ (l .inv .0) (amount-at (c .before .before .before .before .before .before .before .before .before .before)) (c .before .before .before .before .before .before .before .before .before .before .before .before .before .before .loop-test .taken) in
+    let more : l .wrote + 3 ≤ p .result .wrote = rw (p .ensures .3) (omega (arith, some)) in
+    let same : length (p .last .1 .1 .1 .1 .1 .0) ≡ length (l .lines) = p .kept .1 .1 .1 .1 .1 .0 in
+    omega (arith, more, same, c .before .before .before .before .before .before .before .before .before .before .before .before .before .before .loop-test .taken)
+
+loop-again : tie.Need-loop-again Inv-loop μ-loop
+loop-again c =
+    let l = c .before .before .before .before .before .before .before .before .before .before .before .before .before .before .before .loop in
+    let p = c .before .before .before .before .before .before .before .post-amounts in
+    (amounts-on _ _ _ _ _ (l .inv .0) (amount-at (c .before .before .before .before .before .before .before .before .before .before)) _ _ _ _ _ _ (p .ensures) (c .before .before .clear .ensures), c .before .before .clear .kept .0 ∙ l .inv .1)
+
+enum-known-j-2 : tie.Need-enum-known-j-2 Inv-loop μ-loop
+enum-known-j-2 c = search needs
+
+mul-p-2 : tie.Need-mul-p-2 Inv-loop μ-loop
+mul-p-2 c = omega (arith, count-few (c .before .before .before .before .before .loop .inv .0 .valid), found c .used)
+
+element-copy-out-p-2 : tie.Need-element-copy-out-p-2 Inv-loop μ-loop
+element-copy-out-p-2 c = omega (arith, count-few (c .before .before .before .before .before .loop .inv .0 .valid), found c .used)
+
+is-barred-requires : tie.Need-is-barred-requires Inv-loop μ-loop
+is-barred-requires c κs = (c .before .before .before .before .before .before .loop .inv .0 .valid, found (c .before) .entered .fields)
+
+apply-to-period-requires : tie.Need-apply-to-period-requires Inv-loop μ-loop
+apply-to-period-requires c κs = found-affects (found (c .before .before .before))
+
+paid-by-requires : tie.Need-paid-by-requires Inv-loop μ-loop
+paid-by-requires c κs =
+    (c .before .before .before .before .before .before .before .before .before .before .before .before .before .loop .inv .0 .valid .fit .many, λ z. let f = effect-fits (found (c .before .before .before .before .before .before .before .before)) _ (affected (c .before .before .before .before)) z in (f .enough, f .fits))
+
+number-requires : tie.Need-number-requires Inv-loop μ-loop
+number-requires c κs = search needs
+
+put-line-requires : tie.Need-put-line-requires Inv-loop μ-loop
+put-line-requires c κs = omega (arith, c .before .before .before .before .before .before .before .before .before .before .before .before .before .before .before .before .loop .inv .0 .room, c .before .before .before .before .before .before .before .before .before .before .before .before .before .before .before .loop-test .taken)
+
+add-wrote : tie.Need-add-wrote Inv-loop μ-loop
+add-wrote c = omega (arith, c .before .before .before .before .before .before .before .before .before .before .before .before .before .before .before .before .before .before .before .loop .inv .0 .size, c .before .before .before .before .before .before .before .before .before .before .before .before .before .before .before .before .before .before .before .before .before .before .before .good, c .before .before .before .before .before .before .before .before .before .before .before .before .before .before .before .before .before .before .loop-test .taken)
+
+is-leaving-requires : tie.Need-is-leaving-requires Inv-loop μ-loop
+is-leaving-requires c κs =
+    let l = c .before .before .before .before .before .before .before .before .before .before .before .before .before .before .before .before .before .before .before .loop in
+    let sound = effect-sound (found (c .before .before .before .before .before .before .before .before .before .before .before .before .before .before)) _ (affected (c .before .before .before .before .before .before .before .before .before .before)) in
+    (l .inv .0 .valid .fit .many, λ z. omega (arith, arrears-bound (l .b .n) _ sound z))
+
+without-period-requires : tie.Need-without-period-requires Inv-loop μ-loop
+without-period-requires c κs =
+    let l = c .before .before .before .before .before .before .before .before .before .before .before .before .before .before .before .before .before .before .before .before .before .loop in
+    let f = found (c .before .before .before .before .before .before .before .before .before .before .before .before .before .before .before .before) in
+    (l .inv .0 .valid, omega (arith, count-is (l .inv .0 .valid), f .used), leaves-held f _ (affected (c .before .before .before .before .before .before .before .before .before .before .before .before)) (sym (c .before .is-leaving .ensures) ∙ c .if1 .taken))
+
+mul-q-2 : tie.Need-mul-q-2 Inv-loop μ-loop
+mul-q-2 c = omega (arith, count-few (c .before .before .before .before .before .before .before .before .before .before .before .before .before .before .before .before .before .before .before .before .before .loop .inv .0 .valid), found (c .before .before .before .before .before .before .before .before .before .before .before .before .before .before .before .before) .used)
+
+element-set-from-q-2 : tie.Need-element-set-from-q-2 Inv-loop μ-loop
+element-set-from-q-2 c = omega (arith, count-few (c .before .before .before .before .before .before .before .before .before .before .before .before .before .before .before .before .before .before .before .before .before .loop .inv .0 .valid), found (c .before .before .before .before .before .before .before .before .before .before .before .before .before .before .before .before) .used)
+
+loop-less-2 : tie.Need-loop-less-2 Inv-loop μ-loop
+loop-less-2 c = omega (arith, c .before .before .before .before .before .put-line .kept .0, c .before .before .before .before .before .before .before .before .before .before .before .before .before .before .before .before .before .before .before .before .before .before .loop .inv .0 .room, c .before .before .before .before .before .before .before .before .before .before .before .before .before .before .before .before .before .before .before .before .before .loop-test .taken)
+
+loop-again-2 : tie.Need-loop-again-2 Inv-loop μ-loop
+loop-again-2 c =
+    let l = c .before .before .before .before .before .before .before .before .before .before .before .before .before .before .before .before .before .before .before .before .before .before .loop in
+    (turn-on _ _ _ _ _ (l .inv .0) _ _ (named-at (c .before .before .before .before .before .before .before .before .before .before .before .before .before .before .before .before .before) .0) (c .before .before .before .before .before .before .before .before .before .before .before .before .before .before .before .before .before .before .before .before .before .loop-test .taken) _ _ _ _ (named-turn (c .before)) (c .if2 .left), c .before .before .before .before .before .before .before .before .before .before .before .before .before .apply-to-period .kept .1 .1 .1 .1 .1 .0 ∙ l .inv .1)
+
+enum-known-entry : tie.Need-enum-known-entry Inv-loop μ-loop
+enum-known-entry c = search needs
+
+apply-listed-requires : tie.Need-apply-listed-requires Inv-loop μ-loop
+apply-listed-requires c κs = (c .before .before .before .before .before .before .before .loop .inv .0 .valid, omega (arith, c .before .before .before .before .before .before .before .loop .inv .0 .room, c .before .before .before .before .before .before .loop-test .taken))
+
+add-wrote-2 : tie.Need-add-wrote-2 Inv-loop μ-loop
+add-wrote-2 c = omega (arith, c .before .before .before .before .before .before .before .before .before .before .before .before .before .loop .inv .0 .size, c .before .before .before .before .before .before .before .before .before .before .before .before .before .before .before .before .before .good, c .before .before .before .before .before .before .before .before .before .before .before .before .loop-test .taken)
+
+loop-less-3 : tie.Need-loop-less-3 Inv-loop μ-loop
+loop-less-3 c = omega (arith, c .before .before .before .before .before .before .before .apply-listed .kept .1 .1 .1 .0, c .before .before .before .before .before .before .before .before .before .before .before .before .before .before .before .loop .inv .0 .room, c .before .before .before .before .before .before .before .before .before .before .before .before .before .before .loop-test .taken)
+
+loop-again-3 : tie.Need-loop-again-3 Inv-loop μ-loop
+loop-again-3 c =
+    let l = c .before .before .before .before .before .before .before .before .before .before .before .before .before .before .before .loop in
+    (turn-on _ _ _ _ _ (l .inv .0) _ _ (other-at (c .before .before .before .before .before .before .before .before .before .before)) (c .before .before .before .before .before .before .before .before .before .before .before .before .before .before .loop-test .taken) _ _ _ _ (c .before .before .before .before .before .before .before .apply-listed .ensures) (c .if3 .left), c .before .before .before .before .before .before .before .apply-listed .kept .1 .1 .0 ∙ l .inv .1)
+
+enum-told : tie.Need-enum-told Inv-loop μ-loop
+enum-told c = search needs
+
+same-length : tie.Need-same-length Inv-loop μ-loop
+same-length c = c .before .loop .inv .1
+
+same-length-2 : tie.Need-same-length-2 Inv-loop μ-loop
+same-length-2 c = c .before .loop .inv .0 .size
+
+returns : tie.Need-returns Inv-loop μ-loop
+returns c = full-ends _ _ _ _ _ (c .before .loop .inv .0) (omega (arith, c .loop-test .left))
+
+same-length-3 : tie.Need-same-length-3 Inv-loop μ-loop
+same-length-3 c = c .before .before .before .before .before .before .before .before .before .before .before .before .before .apply-to-period .kept .1 .1 .1 .1 .1 .0 ∙ c .before .before .before .before .before .before .before .before .before .before .before .before .before .before .before .before .before .before .before .before .before .before .loop .inv .1
+
+same-length-4 : tie.Need-same-length-4 Inv-loop μ-loop
+same-length-4 c = c .before .before .before .before .before .put-line .kept .0 ∙ c .before .before .before .before .before .before .before .before .before .before .before .before .before .before .before .before .before .before .before .before .before .before .loop .inv .0 .size
+
+returns-2 : tie.Need-returns-2 Inv-loop μ-loop
+returns-2 c = turn-ends _ _ _ _ _ (c .before .before .before .before .before .before .before .before .before .before .before .before .before .before .before .before .before .before .before .before .before .before .loop .inv .0) _ _ (named-at (c .before .before .before .before .before .before .before .before .before .before .before .before .before .before .before .before .before) .0) (c .before .before .before .before .before .before .before .before .before .before .before .before .before .before .before .before .before .before .before .before .before .loop-test .taken) _ _ _ _ (named-turn (c .before)) (c .if2 .taken)
+
+same-length-5 : tie.Need-same-length-5 Inv-loop μ-loop
+same-length-5 c = c .before .before .before .before .before .before .before .apply-listed .kept .1 .1 .0 ∙ c .before .before .before .before .before .before .before .before .before .before .before .before .before .before .before .loop .inv .1
+
+same-length-6 : tie.Need-same-length-6 Inv-loop μ-loop
+same-length-6 c = c .before .before .before .before .before .before .before .apply-listed .kept .1 .1 .1 .0 ∙ c .before .before .before .before .before .before .before .before .before .before .before .before .before .before .before .loop .inv .0 .size
+
+returns-3 : tie.Need-returns-3 Inv-loop μ-loop
+returns-3 c = turn-ends _ _ _ _ _ (c .before .before .before .before .before .before .before .before .before .before .before .before .before .before .before .loop .inv .0) _ _ (other-at (c .before .before .before .before .before .before .before .before .before .before)) (c .before .before .before .before .before .before .before .before .before .before .before .before .before .before .loop-test .taken) _ _ _ _ (c .before .before .before .before .before .before .before .apply-listed .ensures) (c .if3 .taken)
+
+same-length-7 : tie.Need-same-length-7 Inv-loop μ-loop
+same-length-7 c = c .before .before .before .before .loop .inv .1
+
+same-length-8 : tie.Need-same-length-8 Inv-loop μ-loop
+same-length-8 c = c .before .before .before .before .loop .inv .0 .size
+
+returns-4 : tie.Need-returns-4 Inv-loop μ-loop
+returns-4 c =
+    let l = c .before .before .before .before .loop in
+    unread-ends _ _ _ _ _ (l .inv .0) (subst (Decides (l .b) (c .before .before .before .before .before .before .before .before .args .bytes .now) (l .place) (length (l .words))) (c .enum-told .given .1) (c .before .before .way-at .ensures))
+
+pub run-spec : {M : Type 1} → statement M
+run-spec =
+    tie.close
+    (tie.spec
+    Inv-loop
+    μ-loop
+    loop-holds
+    sub-loop
+    way-at-requires
+    enum-known-j
+    mul-p
+    element-copy-out-p
+    post-amounts-requires
+    mul-q
+    element-set-from-q
+    clear-requires
+    loop-less
+    loop-again
+    enum-known-j-2
+    mul-p-2
+    element-copy-out-p-2
+    is-barred-requires
+    apply-to-period-requires
+    paid-by-requires
+    number-requires
+    put-line-requires
+    add-wrote
+    is-leaving-requires
+    without-period-requires
+    mul-q-2
+    element-set-from-q-2
+    loop-less-2
+    loop-again-2
+    enum-known-entry
+    apply-listed-requires
+    add-wrote-2
+    loop-less-3
+    loop-again-3
+    enum-told
+    same-length
+    same-length-2
+    returns
+    same-length-3
+    same-length-4
+    returns-2
+    same-length-5
+    same-length-6
+    returns-3
+    same-length-7
+    same-length-8
+    returns-4)
