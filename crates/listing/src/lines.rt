@@ -1,14 +1,18 @@
 // The lines of the listing.
-ghost use Prim.Native.Nat.{_+_, _*_, _%_, _^_, _≤_};
+ghost use Prim.Native.Nat.{_+_, _*_, _≤_};
 ghost use mathlib.Core.Path.{_≡_};
 ghost use lib.ListN.{length};
 ghost use Rattle.text.specs.Puts.{Puts};
-ghost use Rattle.listing.specs.Lines.{lineOf, lineRoom, payOf, payRoom, paysTo, paidTo};
+ghost use Rattle.listing.specs.Lines.{lineOf, lineRoom, linesTo, lastPaid, payOf, payRoom, paysTo};
+use book::LINE;
 use text::put_bytes;
 use text::put_number;
 
 // How many payout words the book is lent.
 pub const WORDS: usize = 64;
+
+// How many words are lent for the lines of a run: those of 512 entries.
+pub const LINES: usize = 512 * LINE;
 
 const SPACE: u8 = 32;
 
@@ -31,6 +35,39 @@ pub fn put_line(
     let b = put_number(out, a, answer, SPACE);
     let c = put_number(out, b, paid, SPACE);
     put_number(out, c, held, NEWLINE)
+}
+
+// The lines of the first `count` entries of a run, numbered from `first` on.
+pub fn put_lines(
+    out: &mut [u8],
+    place: usize,
+    first: u64,
+    lines: &[u64; LINES],
+    count: usize,
+) -> usize
+    requires { ⌜ (count ≤ 512) × (place + count * lineRoom ≤ length (now out)) ⌝ }
+    ensures { λ r. ⌜ Puts (now (out .entry)) place (linesTo first (now (lines .entry)) count) (now (out .exit)) r ⌝ }
+    ensures { λ r. ⌜ r ≤ place + count * lineRoom ⌝ }
+{
+    let mut next = place;
+    for i in 0..count {
+        let k = i * LINE;
+        let number = std::num::wrapping_add_u64(first, i as u64);
+        next = put_line(out, next, number, lines[k], lines[k + 1], lines[k + 2]);
+    }
+    next
+}
+
+// The cents paid by the last of these entries; 0 where there is none.
+pub fn last_paid(lines: &[u64; LINES], count: usize) -> u64
+    requires { ⌜ count ≤ 512 ⌝ }
+    ensures { λ r. ⌜ r ≡ lastPaid (now (lines .entry)) count ⌝ }
+{
+    if count == 0 {
+        return 0;
+    }
+    let k = (count - 1) * LINE;
+    lines[k + 1]
 }
 
 // The line of a payout, where there is one.
@@ -58,15 +95,4 @@ pub fn put_pays(out: &mut [u8], place: usize, words: &[u64; WORDS]) -> usize
         next = put_pay(out, next, i as u64, words[i]);
     }
     next
-}
-
-// The sum of the payouts.
-pub fn paid(words: &[u64; WORDS]) -> u64
-    ensures { λ r. ⌜ r ≡ paidTo (now (words .entry)) 64 % 2 ^ 64 ⌝ }
-{
-    let mut sum = 0u64;
-    for i in 0..WORDS {
-        sum = std::num::wrapping_add_u64(sum, words[i]);
-    }
-    sum
 }

@@ -2,15 +2,18 @@
 ghost use Prim.Native.Nat.{_≤_};
 ghost use Rattle.text.specs.Puts.{Puts};
 ghost use Rattle.book.specs.Valid.{Valid};
-ghost use Rattle.listing.specs.Lines.{linesOf, unreadOf};
+ghost use Rattle.listing.specs.Lines.{runOf, unreadOf};
 
 mod lines;
 
 use book::Book;
+use book::LINE;
 use book::Reading;
+use lines::LINES;
 use lines::WORDS;
-use lines::paid;
+use lines::last_paid;
 use lines::put_line;
+use lines::put_lines;
 use lines::put_pays;
 use text::fill;
 use text::flush;
@@ -25,8 +28,10 @@ type Block = [u8; BLOCK];
 
 type Words = [u64; WORDS];
 
-// The most bytes of output that wait: there is room behind them for the lines of one entry.
-const WAITING: usize = 61440;
+type Lines = [u64; LINES];
+
+// The most bytes of output that wait: there is room behind them for the lines of 512 entries and of 64 payouts.
+const WAITING: usize = 16384;
 
 // More turns than any feed takes.
 const TURNS: u64 = 1_000_000_000_000_000_000;
@@ -35,29 +40,29 @@ fn size(n: u8) -> usize {
     n as usize
 }
 
-// The lines of an entry that was applied.
-fn put_entry(
+// The lines of a run: those of its entries and, where the last of them has paid, those of its payouts.
+fn put_run(
     out: &mut Block,
     place: usize,
-    number: u64,
-    answer: u64,
-    held: u64,
+    first: u64,
+    lines: &Lines,
+    count: usize,
     words: &Words,
 ) -> usize
-    requires { ⌜ place ≤ 61440 ⌝ }
-    ensures { λ r. ⌜ Puts (now (out .entry)) place (linesOf number answer held (now (words .entry))) (now (out .exit)) r ⌝ }
+    requires { ⌜ (place ≤ 16384) × (count ≤ 512) ⌝ }
+    ensures { λ r. ⌜ Puts (now (out .entry)) place (runOf first (now (lines .entry)) count (now (words .entry))) (now (out .exit)) r ⌝ }
     ensures { λ r. ⌜ r ≤ 65536 ⌝ }
 {
-    if answer != 0 {
-        return put_line(out, place, number, answer, 0, held);
+    let next = put_lines(out, place, first, lines, count);
+    if last_paid(lines, count) == 0 {
+        return next;
     }
-    let next = put_line(out, place, number, 0, paid(words), held);
     put_pays(out, next, words)
 }
 
 // The line of an entry that cannot be read, where the listing stopped at one.
 fn put_unread(out: &mut Block, place: usize, number: u64, answer: u64, held: u64) -> usize
-    requires { ⌜ place ≤ 61440 ⌝ }
+    requires { ⌜ place ≤ 16384 ⌝ }
     ensures { λ r. ⌜ Puts (now (out .entry)) place (unreadOf number answer held) (now (out .exit)) r ⌝ }
     ensures { λ r. ⌜ r ≤ 65536 ⌝ }
 {
@@ -75,10 +80,17 @@ struct Standing {
     wrote: usize,
 }
 
-// Lists the entries of a block up to one that cannot be read.
-fn list_block(start: Standing, feed: &[u8], out: &mut Block, words: &mut Words) -> Standing
-    requires { ⌜ Valid (start .book) × (start .wrote ≤ 61440) ⌝ }
-    ensures { λ r. ⌜ Valid (r .book) × (r .wrote ≤ 61440) ⌝ }
+// Lists the entries of a block up to one that cannot be read, run after run: a run ends behind an entry that has paid,
+// so that its payouts stand next.
+fn list_block(
+    start: Standing,
+    feed: &[u8],
+    out: &mut Block,
+    words: &mut Words,
+    lines: &mut Lines,
+) -> Standing
+    requires { ⌜ Valid (start .book) × (start .wrote ≤ 16384) ⌝ }
+    ensures { λ r. ⌜ Valid (r .book) × (r .wrote ≤ 16384) ⌝ }
 {
     let mut b = start.book;
     let mut number = start.number;
@@ -87,26 +99,17 @@ fn list_block(start: Standing, feed: &[u8], out: &mut Block, words: &mut Words) 
     let mut turns: usize = 0;
     while turns < feed.len() {
         turns += 1;
-        match book::read_next(feed, place) {
-            Reading::Found { entry, next } => {
-                let r = book::apply(b, entry, words);
-                let answer = r.answer;
-                let left = r.book;
-                b = left;
-                wrote = put_entry(
-                    out,
-                    wrote,
-                    number,
-                    book::number(answer),
-                    book::held(b),
-                    words,
-                );
-                wrote = flush(out, wrote, WAITING);
-                number = std::num::wrapping_add_u64(number, 1);
-                place = next;
-            }
-            _ => break,
+        let r = book::run(b, feed, place, words, lines);
+        let left = r.book;
+        b = left;
+        place = r.place;
+        let count = r.wrote / LINE;
+        if count == 0 {
+            break;
         }
+        wrote = put_run(out, wrote, number, lines, count, words);
+        wrote = flush(out, wrote, WAITING);
+        number = std::num::wrapping_add_u64(number, count as u64);
     }
     Standing {
         book: b,
@@ -133,15 +136,23 @@ fn cut(left: usize) -> u64 {
 
 // Ends the listing, with the line of an entry that cannot be read where there is one.
 fn finish(s: Standing, why: u64, out: &mut Block)
-    requires { ⌜ s .wrote ≤ 61440 ⌝ }
+    requires { ⌜ s .wrote ≤ 16384 ⌝ }
 {
     let b = s.book;
     let wrote = put_unread(out, s.wrote, s.number, why, book::held(b));
     flush(out, wrote, 0);
 }
 
-// Lists block after block, each with what the one before it left unread in front; n is the first byte of the first.
-fn list_blocks(first: Book, read: usize, feed: &mut Block, out: &mut Block, words: &mut Words)
+// Lists block after block, each with what the one before it left unread in front; n is the first byte of the first. No
+// line waits while the next block is awaited.
+fn list_blocks(
+    first: Book,
+    read: usize,
+    feed: &mut Block,
+    out: &mut Block,
+    words: &mut Words,
+    lines: &mut Lines,
+)
     requires { ⌜ Valid first × (read ≤ 65536) ⌝ }
 {
     let mut s = Standing {
@@ -154,7 +165,7 @@ fn list_blocks(first: Book, read: usize, feed: &mut Block, out: &mut Block, word
     let mut turns: u64 = 0;
     while turns < TURNS {
         turns += 1;
-        let next = list_block(s, part(feed, 0, filled), out, words);
+        let next = list_block(s, part(feed, 0, filled), out, words, lines);
         s = next;
         let why = unread(part(feed, 0, filled), s.place);
         if why != 1 {
@@ -163,6 +174,8 @@ fn list_blocks(first: Book, read: usize, feed: &mut Block, out: &mut Block, word
         }
         filled = keep(feed, s.place, filled);
         s.place = 0;
+        let wrote = flush(out, s.wrote, 0);
+        s.wrote = wrote;
         let more = fill(feed, filled);
         if more == filled {
             finish(s, cut(filled), out);
@@ -174,7 +187,7 @@ fn list_blocks(first: Book, read: usize, feed: &mut Block, out: &mut Block, word
 }
 
 // Prints the header, reads n and lists the entries.
-fn list(feed: &mut Block, out: &mut Block, words: &mut Words) {
+fn list(feed: &mut Block, out: &mut Block, words: &mut Words, lines: &mut Lines) {
     let headed = put_bytes(out, 0, b"entry answer paid held\n");
     flush(out, headed, 0);
     let read = fill(feed, 0);
@@ -183,12 +196,13 @@ fn list(feed: &mut Block, out: &mut Block, words: &mut Words) {
     }
     let made = book::new(size(feed[0]));
     let first = made.book;
-    list_blocks(first, read, feed, out, words);
+    list_blocks(first, read, feed, out, words, lines);
 }
 
 fn main() {
     let mut feed = [0u8; BLOCK];
     let mut out = [0u8; BLOCK];
     let mut words = [0u64; WORDS];
-    list(&mut feed, &mut out, &mut words);
+    let mut lines = [0u64; LINES];
+    list(&mut feed, &mut out, &mut words, &mut lines);
 }

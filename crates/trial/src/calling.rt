@@ -122,7 +122,7 @@ fn read(s: &[u8], count: usize, out: &mut [u8; BLOCK], wrote: usize) -> usize
 {
     let place = number_at(s, 1, 8) as usize;
     let end = READ_LENGTH + count;
-    let reading = book::read_entry(part(s, READ_LENGTH, end), place);
+    let reading = book::read_next(part(s, READ_LENGTH, end), place);
     match reading {
         Reading::Found { entry, next } => put_found(out, wrote, entry, next),
         Reading::Short => put_refused(out, wrote, 1, place),

@@ -30,7 +30,7 @@ new-requires : tie.Need-new-requires
 new-requires c κs = search needs
 
 list-blocks-requires : tie.Need-list-blocks-requires
-list-blocks-requires c κs = (subst Valid (sym (c .before .before .before .before .new .ensures .1)) (stays-valid .first _), search needs)
+list-blocks-requires c κs = (subst Valid (sym (c .before .before .before .before .before .new .ensures .1)) (stays-valid .first _), search needs)
 
 returns-2 : tie.Need-returns-2
 returns-2 c = search needs

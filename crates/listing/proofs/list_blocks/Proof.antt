@@ -1,15 +1,16 @@
 use Prim.Native.Nat.{_-_, _≤_}
+use native.Mathlib.Omega.{arith}
 use Rattle.book.specs.Valid.{Valid}
 use borrow.Author.Needs.{needs}
 use Rattle.listing.proofs.list_blocks.Statement.{statement}
 use Rattle.listing.proofs.list_blocks.Tie as tie
 
 abbrev Inv-loop : tie.InvT-loop
-Inv-loop read feed₀ out₀ words₀ s₀ filled₀ turns₀ feed out words s filled turns =
-    Valid (s .book) × (s .wrote ≤ 61440) × (filled ≤ 65536) × (turns ≤ 1000000000000000000)
+Inv-loop read feed₀ out₀ words₀ lines₀ s₀ filled₀ turns₀ feed out words lines s filled turns =
+    Valid (s .book) × (s .wrote ≤ 16384) × (filled ≤ 65536) × (turns ≤ 1000000000000000000)
 
 abbrev μ-loop : tie.MeasureT-loop
-μ-loop read feed₀ out₀ words₀ s₀ filled₀ turns₀ feed out words s filled turns =
+μ-loop read feed₀ out₀ words₀ lines₀ s₀ filled₀ turns₀ feed out words lines s filled turns =
     1000000000000000000 - turns
 
 loop-holds : tie.Need-loop-holds Inv-loop μ-loop
@@ -39,8 +40,11 @@ returns c = search needs
 keep-requires : tie.Need-keep-requires Inv-loop μ-loop
 keep-requires c κs = search needs
 
+flush-requires : tie.Need-flush-requires Inv-loop μ-loop
+flush-requires c κs = search needs
+
 fill-requires : tie.Need-fill-requires Inv-loop μ-loop
-fill-requires c κs = search needs
+fill-requires c κs = omega (arith, c .before .before .before .before .before .before .before .before .before .before .before .before .before .before .before .before .before .before .before .loop .inv .2)
 
 cut-requires : tie.Need-cut-requires Inv-loop μ-loop
 cut-requires c κs = search needs
@@ -52,10 +56,11 @@ returns-2 : tie.Need-returns-2 Inv-loop μ-loop
 returns-2 c = search needs
 
 loop-less : tie.Need-loop-less Inv-loop μ-loop
-loop-less c = search needs
+loop-less c = omega (arith, c .before .before .before .before .before .before .before .before .before .before .before .before .before .before .before .before .before .before .before .before .loop-test .taken)
 
 loop-again : tie.Need-loop-again Inv-loop μ-loop
-loop-again c = search needs
+loop-again c =
+    (c .before .before .before .before .before .before .before .before .before .before .before .before .before .list-block .ensures .0, omega (arith, c .before .before .before .flush .ensures), omega (arith, c .before .fill .ensures .within), omega (arith, c .before .before .before .before .before .before .before .before .before .before .before .before .before .before .before .before .before .before .before .before .loop-test .taken))
 
 finish-requires-3 : tie.Need-finish-requires-3 Inv-loop μ-loop
 finish-requires-3 c κs = search needs
@@ -78,6 +83,7 @@ list-blocks-spec =
     finish-requires
     returns
     keep-requires
+    flush-requires
     fill-requires
     cut-requires
     finish-requires-2
