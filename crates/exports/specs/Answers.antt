@@ -1,5 +1,5 @@
--- What settlement reckons of the month in slices.
-use Prim.Native.Nat.{ℕ}
+-- What settlement reckons of the month in slices, and the answers to arguments that are not in order.
+use Prim.Native.Nat.{ℕ, _-_, _^_}
 use mathlib.Core.List.{List}
 use Rattle.settlement.specs.Notice.{retention, noticed}
 use Rattle.settlement.specs.Settling.{scaledAmounts, settled}
@@ -11,6 +11,10 @@ use Rattle.exports.specs.Slices.{rowOf, monthOf}
 -- the answer of a settlement to arguments that are not in order: more rounds than 64 participants can have
 abbrev pub refused : ℕ
 refused = 65
+
+-- the answer of a proportion to them: the largest word, and a quotient is at most its amount, below 2 ^ 44
+abbrev pub noQuotient : ℕ
+noQuotient = 2 ^ 64 - 1
 
 module _ (n : ℕ) (by to : List ℕ) where
   abbrev pub noticeOf : Noticed

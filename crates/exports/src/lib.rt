@@ -1,30 +1,48 @@
-// C exports over slices: notice, scaled amounts, settlement and late money of one month.
+// C exports: the exact proportion; over slices, notice, scaled amounts, settlement and late money of one month.
 mod months;
 mod orders;
 mod slices;
 
+use exact::proportion;
 use months::late_of;
 use months::notice_of;
 use months::scaled_of;
 use months::settled_of;
 use orders::in_order;
+use orders::proportional;
 use orders::tiers_in_order;
 use slices::put_row;
 use slices::shorter;
 ghost use mathlib.Core.Path.{_≡_};
 ghost use mathlib.Core.Bool.{cond};
-ghost use Prim.Native.Nat.{min};
+ghost use Prim.Native.Nat.{_*_, _/_, min};
 ghost use lib.Dec.{leb};
 ghost use lib.ListN.{length};
+ghost use Rattle.exact.specs.Division.{Proportional};
 ghost use Rattle.exact.specs.Rows.{places, cells};
 ghost use Rattle.settlement.specs.Month.{tierAt};
 ghost use Rattle.settlement.specs.Late.{latePayment};
 ghost use Rattle.exports.specs.Slices.{front, rowOf, tierPlaces, left};
 ghost use Rattle.exports.specs.Orders.{tiersInOrder, inOrder, settlementInOrder};
-ghost use Rattle.exports.specs.Answers.{noticeOf, scaledOf, settledOf, refused};
+ghost use Rattle.exports.specs.Answers.{noticeOf, scaledOf, settledOf, refused, noQuotient};
 
 // More rounds than any settlement runs: the answer to arguments that are not in order.
 const REFUSED: u64 = 65;
+
+// More than any quotient: the answer of a proportion to arguments that are not in order.
+const NO_QUOTIENT: u64 = 0xFFFF_FFFF_FFFF_FFFF;
+
+// amount × part / whole rounded down, or 2^64 − 1 where the arguments are not in order.
+#[no_mangle]
+pub extern "C" fn clearing_proportion(amount: u64, part: u64, whole: u64) -> u64
+    ensures { λ r. ⌜ (Proportional amount part whole → r ≡ amount * part / whole) ⌝ }
+    ensures { λ r. ⌜ ((Proportional amount part whole → ⊥) → r ≡ noQuotient) ⌝ }
+{
+    if !proportional(amount, part, whole) {
+        return NO_QUOTIENT;
+    }
+    proportion(amount, part, whole).quotient
+}
 
 // Writes the retention and payable amounts of a month, and says whether the arguments were in order. If not, nothing is written.
 #[no_mangle]

@@ -3,6 +3,8 @@ use crate::slices::within;
 use exact::PLACES;
 use settlement::TIERS;
 ghost use mathlib.Core.Path.{_≡_};
+ghost use mathlib.Core.Bool.{true, false};
+ghost use Rattle.exact.specs.Division.{Proportional};
 ghost use Rattle.exports.specs.Orders.{tiersInOrder, inOrder};
 
 // Whether n participants and the cents owing to them by tiers are in order, and the shortest slice of a row has room.
@@ -32,4 +34,23 @@ pub fn in_order(by: &[u64], to: &[u64], n: usize, room: usize) -> bool
         return false;
     }
     within(by, n)
+}
+
+// Amounts and divisors of an exact proportion are below this.
+const FACTOR_LIMIT: u64 = 0x1000_0000_0000;
+
+// Whether amount × part / whole is within what an exact proportion takes.
+pub fn proportional(amount: u64, part: u64, whole: u64) -> bool
+    ensures { λ r. ⌜ (r ≡ true → Proportional amount part whole) × (r ≡ false → Proportional amount part whole → ⊥) ⌝ }
+{
+    if whole == 0 {
+        return false;
+    }
+    if whole < part {
+        return false;
+    }
+    if FACTOR_LIMIT <= whole {
+        return false;
+    }
+    amount < FACTOR_LIMIT
 }

@@ -2,6 +2,8 @@
 //! pointer to its first cell and its length.
 
 extern "C" {
+    fn clearing_proportion(amount: u64, part: u64, whole: u64) -> u64;
+
     fn clearing_notice(
         by: *const u64,
         by_length: usize,
@@ -58,6 +60,12 @@ extern "C" {
         pays: *mut u64,
         pays_length: usize,
     ) -> bool;
+}
+
+/// amount × part / whole rounded down, or 2^64 − 1 where the arguments are not in order.
+pub fn proportion(amount: u64, part: u64, whole: u64) -> u64 {
+    // SAFETY: the function takes any three words.
+    unsafe { clearing_proportion(amount, part, whole) }
 }
 
 /// Whether the arguments were in order. The slices written are retention and payable.

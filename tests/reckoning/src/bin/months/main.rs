@@ -1,8 +1,9 @@
-//! Random months through the clearing book's static library, compared with the
-//! reckoning cell by cell. check/months.sh builds and runs it.
+//! Random months and proportions through the clearing book's static library,
+//! compared with the reckoning cell by cell. tests/run builds and runs it.
 
 mod compare;
 mod library;
+mod proportions;
 mod refused;
 mod slices;
 
@@ -17,7 +18,7 @@ const MONTHS: u64 = 20_000;
 const SHOWN: usize = 20;
 
 /// How far the comparison reached.
-fn print_reach(count: &Count, refusals: u64) {
+fn print_reach(count: &Count, refusals: u64, proportions: u64) {
     let participants = &count.participants;
     let least = participants.values().min().unwrap_or(&0);
     let most = count.rounds.keys().max().unwrap_or(&0);
@@ -26,6 +27,7 @@ fn print_reach(count: &Count, refusals: u64) {
     println!("{} numbers of participants, {least} months or more of each", participants.len());
     println!("{some} months with rounds, at most {most}");
     println!("{refusals} sets of arguments for the refusals");
+    println!("{proportions} proportions");
 }
 
 fn main() -> ExitCode {
@@ -38,10 +40,11 @@ fn main() -> ExitCode {
         count.month(&name, &months::month_of(!seed, n), rest);
     }
     let refusals = count.refusals();
+    let proportions = count.proportions();
     for difference in count.differences.iter().take(SHOWN) {
         println!("{difference}");
     }
-    print_reach(&count, refusals);
+    print_reach(&count, refusals, proportions);
     println!("months: {} compared, {} differences", count.months, count.differences.len());
     if count.differences.is_empty() {
         ExitCode::SUCCESS
