@@ -97,6 +97,11 @@ impl Aim {
             self.closing.insert(number);
             return self.close(number);
         }
+        self.energy_or_amount(number)
+    }
+
+    /// Energy or an amount for a period before its notice.
+    pub fn energy_or_amount(&mut self, number: u32) -> Entry {
         let side = self.random.below(2) as u8;
         if self.random.chance(1, 3) {
             return self.any_energy(number, side);
@@ -107,7 +112,7 @@ impl Aim {
     }
 
     /// An amount that brings the sides nearer, or the notice when they are equal.
-    fn close(&mut self, number: u32) -> Entry {
+    pub fn close(&mut self, number: u32) -> Entry {
         let sums = &self.book.periods[&number].sums;
         let (by, to) = (sums.total(0), sums.total(1));
         let difference = by.abs_diff(to) as u64;
@@ -178,7 +183,7 @@ impl Aim {
     }
 
     /// Payers that can still pay on a period and that no earlier arrears bar.
-    fn payers(&self, number: u32) -> Vec<usize> {
+    pub fn payers(&self, number: u32) -> Vec<usize> {
         let period = &self.book.periods[&number];
         let can_pay = |&i: &usize| period.most_receipt(i) > 0 && !self.book.barred(number, i);
         (0..self.book.n).filter(can_pay).collect()
@@ -210,7 +215,7 @@ impl Aim {
     }
 
     /// A receipt of all that the payer can pay, of a part, or of a cent.
-    fn receipt_of(&mut self, number: u32, payer: usize) -> Entry {
+    pub fn receipt_of(&mut self, number: u32, payer: usize) -> Entry {
         let most = self.book.periods[&number].most_receipt(payer) as u64;
         let cents = match self.random.below(20) {
             0..=10 => most,

@@ -33,7 +33,7 @@ fn add(to: &mut [u64], from: &[u64]) {
     to.iter_mut().zip(from).for_each(|(to, from)| *to += from);
 }
 
-fn print_answers(name: &str, counts: &[u64]) {
+pub(crate) fn print_answers(name: &str, counts: &[u64]) {
     let parts: Vec<String> = counts
         .iter()
         .enumerate()

@@ -14,6 +14,11 @@ fn shown(line: Option<&&[u8]>) -> String {
 
 /// The first difference between the reckoned text and the text found.
 pub fn first_difference(reckoned: &[u8], found: &[u8]) -> Option<String> {
+    difference_after(0, reckoned, found)
+}
+
+/// The first difference of two texts that stand behind so many lines.
+pub fn difference_after(lines: u64, reckoned: &[u8], found: &[u8]) -> Option<String> {
     if reckoned == found {
         return None;
     }
@@ -24,7 +29,7 @@ pub fn first_difference(reckoned: &[u8], found: &[u8]) -> Option<String> {
         at += 1;
     }
     let (left, right) = (shown(left.get(at)), shown(right.get(at)));
-    Some(format!("line {}: reckoned {left}, found {right}", at + 1))
+    Some(format!("line {}: reckoned {left}, found {right}", lines + at as u64 + 1))
 }
 
 /// What the listing found for a feed came to, or how it differs.

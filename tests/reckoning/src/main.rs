@@ -1,6 +1,7 @@
 //! The reckoning as a program; `reckoning` alone prints its uses.
 
-use reckoning::{compare, damage, feeds, listing, pairs, trial};
+use reckoning::soak::Plan;
+use reckoning::{compare, damage, feeds, listing, malformed, pairs, soak, trial};
 use std::io::{self, BufReader, BufWriter, Write};
 use std::process::ExitCode;
 
@@ -11,6 +12,8 @@ const USES: &str = "uses:
   reckoning trial < CALLS
   reckoning feed SEED KIND > FEED
   reckoning pairs
+  reckoning soak --listing PATH --n N --entries COUNT --months COUNT
+  reckoning malformed --listing PATH --feeds COUNT
 kinds of feed:";
 
 fn status(right: bool) -> ExitCode {
@@ -53,6 +56,15 @@ fn print_pairs(out: &mut impl Write) -> io::Result<()> {
     Ok(())
 }
 
+fn run_soak(listing: &str, n: &str, entries: &str, months: &str) -> ExitCode {
+    match (n.parse(), entries.parse(), months.parse()) {
+        (Ok(n), Ok(entries), Ok(months)) => {
+            status(soak::soak(listing, Plan { n, entries, months }))
+        }
+        _ => print_uses(),
+    }
+}
+
 fn main() -> ExitCode {
     let words: Vec<String> = std::env::args().skip(1).collect();
     let words: Vec<&str> = words.iter().map(String::as_str).collect();
@@ -60,6 +72,13 @@ fn main() -> ExitCode {
         ["compare", "--listing", listing, "--trial", trial] => {
             status(compare::compare(listing, trial))
         }
+        ["soak", "--listing", listing, "--n", n, "--entries", entries, "--months", months] => {
+            run_soak(listing, n, entries, months)
+        }
+        ["malformed", "--listing", listing, "--feeds", feeds] => match feeds.parse() {
+            Ok(feeds) => status(malformed::malformed(listing, feeds)),
+            Err(_) => print_uses(),
+        },
         ["selftest"] => status(damage::selftest()),
         ["listing"] => print(|out| listing::list(io::stdin(), out)),
         ["trial"] => print(|out| trial::run(BufReader::new(io::stdin()), out)),
