@@ -2,7 +2,7 @@
 use Prim.Native.Nat.{ℕ, zero, suc}
 use mathlib.Core.Path.{_≡_, refl, sym, ap, subst, _∙_}
 use mathlib.Core.Bool.{Bool, true, false, cond}
-use mathlib.Core.Logic.{⊎-elim}
+use mathlib.Core.Logic.{inl, inr, ⊎-elim}
 use mathlib.Core.List.{List, [], _∷_, _++_}
 use lib.Dec.{eqb}
 use Rattle.book.specs.Reading.{reading}
@@ -10,7 +10,7 @@ use Rattle.book.specs.Rules.{Input}
 use Rattle.book.specs.Step.{reply}
 use Rattle.book.specs.Running.{Run, paidBy, stopped, run, inputsOf}
 use Rattle.book.specs.Demand3.{History, begun, next, after, Clauses}
-use Rattle.book.specs.RunDemand3.{Block, afterRun, afterRuns, RunDemand3}
+use Rattle.book.specs.RunDemand3.{Block, Work, afterRun, afterWork, afterAll, RunDemand3}
 use Rattle.book.proofs.RunLaws.{read-or-none}
 use Rattle.book.proofs.Demand3.{demand3}
 
@@ -48,14 +48,15 @@ module _ (x : Block) where
   unfolding afterRun
   run-after h = λ z. record { book = run-book (x .bytes) (x .room) h (x .place) (x .words) z; log = after h (inputsOf (x .bytes) (x .room) (h .book) (x .place) (x .words)) .log }
 
--- and so do many, one after the other
-runs-after : (h : History) (blocks : List Block) → (inputs : List Input) × (afterRuns h blocks ≡ after h inputs)
-unfolding afterRuns after
-runs-after h [] = ([], refl)
-runs-after h (x ∷ blocks) =
+-- and so with many, single entries among them
+all-after : (h : History) (work : List Work) → (inputs : List Input) × (afterAll h work ≡ after h inputs)
+unfolding afterAll afterWork after
+all-after h [] = ([], refl)
+all-after h (inl x ∷ work) = let later = all-after (next h x) work in (x ∷ later .0, later .1)
+all-after h (inr x ∷ work) =
     let l = inputsOf (x .bytes) (x .room) (h .book) (x .place) (x .words) in
-    let later = runs-after (afterRun h x) blocks in
+    let later = all-after (afterRun h x) work in
     (l ++ later .0, later .1 ∙ ap (λ (g : History). after g (later .0)) (run-after x h) ∙ sym (after-both h l (later .0)))
 
 pub run-demand3 : RunDemand3
-run-demand3 m blocks = let l = runs-after (begun m) blocks in subst (Clauses (m .n)) (sym (l .1)) (demand3 m (l .0))
+run-demand3 m work = let l = all-after (begun m) work in subst (Clauses (m .n)) (sym (l .1)) (demand3 m (l .0))

@@ -1,9 +1,11 @@
--- Demand 3 of the book that a block run hands back (01, The list of demand 3).
+-- Demand 3 of the book that block runs and single entries hand back, in any order (01, The list of demand 3).
 use Prim.Native.Nat.{ℕ}
+use mathlib.Core.Logic.{_⊎_, inl, inr}
 use mathlib.Core.List.{List, [], _∷_}
 use Rattle.book.specs.State.{Making}
+use Rattle.book.specs.Rules.{Input}
 use Rattle.book.specs.Running.{run, inputsOf}
-use Rattle.book.specs.Demand3.{History, begun, after, Clauses}
+use Rattle.book.specs.Demand3.{History, begun, next, after, Clauses}
 
 -- a block of the feed as it is lent: its bytes, the place of the next entry, the payout words, and the room for lines
 pub record Block : Type 0 where
@@ -19,10 +21,18 @@ afterRun h x = record {
   log = after h (inputsOf (x .bytes) (x .room) (h .book) (x .place) (x .words)) .log;
 }
 
--- each run starts from the book that the one before it handed back
-unfoldable pub afterRuns : History → List Block → History
-afterRuns h [] = h
-afterRuns h (x ∷ blocks) = afterRuns (afterRun h x) blocks
+-- an entry that is applied, or a block that is run
+abbrev pub Work : Type 0
+Work = Input ⊎ Block
+
+unfoldable pub afterWork : History → Work → History
+afterWork h (inl x) = next h x
+afterWork h (inr x) = afterRun h x
+
+-- each starts from the book that the one before it handed back
+unfoldable pub afterAll : History → List Work → History
+afterAll h [] = h
+afterAll h (x ∷ work) = afterAll (afterWork h x) work
 
 abbrev pub RunDemand3 : Type 0
-RunDemand3 = (m : Making) (blocks : List Block) → Clauses (m .n) (afterRuns (begun m) blocks)
+RunDemand3 = (m : Making) (work : List Work) → Clauses (m .n) (afterAll (begun m) work)
