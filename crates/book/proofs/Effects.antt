@@ -1,15 +1,17 @@
 -- What an entry makes of the period that it names is what the definitions make of the book.
 use Prim.Native.Nat.{ℕ, _+_, _-_}
 use mathlib.Core.Path.{_≡_, refl, sym, ap, subst, _∙_}
-use mathlib.Core.Bool.{Bool, true, false, true≢false}
+use mathlib.Core.Bool.{Bool, true, false, cond, true≢false}
 use mathlib.Core.Logic.{⊎-elim}
 use mathlib.Core.List.{List}
 use native.Mathlib.Omega.{arith}
 use borrow.Author.Tests.{eq-eqb, ne-eqb}
+use lib.Dec.{eqb}
 use lib.ListN.{getD}
 use lib.Seq.{set-getD}
-use Rattle.exact.specs.Rows.{at, sum}
+use Rattle.exact.specs.Rows.{at, sum, filled}
 use Rattle.exact.proofs.Cases.{eq-or-ne}
+use Rattle.exact.proofs.RowLaws.{sum-cong, filled-at}
 use Rattle.book.specs.Checks.{refusal}
 use Rattle.book.specs.Kinds.{receiptCents}
 use Rattle.book.specs.Periods.{leaves, changed}
@@ -18,6 +20,7 @@ use Rattle.book.specs.Rules.{periodChecks, barring}
 use Rattle.book.specs.Step.{payoutWords, Reply, reply}
 use Rattle.book.specs.Valid.{Sound}
 use Rattle.book.specs.Acting.{Effect, effect, Affects}
+use Rattle.book.specs.Running.{paidBy}
 use Rattle.book.specs.declared.entries.Entry.{Entry}
 use Rattle.book.specs.declared.Period.{Period}
 use Rattle.book.specs.declared.Book.{Book}
@@ -32,15 +35,21 @@ module _ (n : ℕ) (e : Entry) (barred : Bool) (p : Period) (held : ℕ) (w : Li
     rounds = changed n e p .rounds;
     period = changed n e p .period;
     held = held + receiptCents e - sum (at (changed n e p .pays)) n;
+    paid = sum (at (changed n e p .pays)) n;
     words = payoutWords n (changed n e p .pays) w;
   }
   unfolding effect
   effect-accepted h = rw (eq-eqb (refusal (periodChecks n barred e p)) 0 h)
 
   pub effect-refused : (refusal (periodChecks n barred e p) ≡ 0 → ⊥)
-      → effect n e barred p held w ≡ record { answer = refusal (periodChecks n barred e p); rounds = 0; period = p; held = held; words = w }
+      → effect n e barred p held w ≡ record { answer = refusal (periodChecks n barred e p); rounds = 0; period = p; held = held; paid = 0; words = w }
   unfolding effect
   effect-refused h = rw (ne-eqb (refusal (periodChecks n barred e p)) 0 h)
+
+-- the payout words come to what is paid
+pub words-sum : (n : ℕ) (pays words : List ℕ) → sum (at (payoutWords n pays words)) n ≡ sum (at pays) n
+unfolding payoutWords
+words-sum n pays words = sum-cong (at (filled (at pays) n words)) (at pays) n (λ i h. filled-at (at pays) n i words 0 h)
 
 module _ {b : Book} {e : Entry} {w : List ℕ} {j : ℕ} (f : Found b e w j) where
   abbrev n : ℕ
@@ -60,9 +69,10 @@ module _ {b : Book} {e : Entry} {w : List ℕ} {j : ℕ} (f : Found b e w j) whe
           rounds = changed n e here .rounds;
           period = changed n e here .period;
           held = b .held + receiptCents e - sum (at (changed n e here .pays)) n;
+          paid = sum (at (changed n e here .pays)) n;
           words = payoutWords n (changed n e here .pays) w;
         }))
-        → ((refusal (periodChecks n bar e here) ≡ 0 → ⊥) → P (record { answer = refusal (periodChecks n bar e here); rounds = 0; period = here; held = b .held; words = w }))
+        → ((refusal (periodChecks n bar e here) ≡ 0 → ⊥) → P (record { answer = refusal (periodChecks n bar e here); rounds = 0; period = here; held = b .held; paid = 0; words = w }))
         → P x
     of-effect P taken left = subst P (sym q) (⊎-elim
         (λ h. subst P (sym (effect-accepted n e bar here (b .held) w h)) (taken (record { found = f; passed = h })))
@@ -124,6 +134,16 @@ module _ {b : Book} {e : Entry} {w : List ℕ} {j : ℕ} (f : Found b e w j) whe
             → let r = reply b (record { entry = e; words = w }) in (x .answer ≡ r .answer) × (x .words ≡ r .words) × (x .held ≡ centsHeld (r .book))
         go true l = let q = reply-leaves l in (ap (λ (r : Reply). r .answer) q, ap (λ (r : Reply). r .words) q, leaves-held l ∙ ap (λ (r : Reply). centsHeld (r .book)) q)
         go false l = let q = reply-stays l in (ap (λ (r : Reply). r .answer) q, ap (λ (r : Reply). r .words) q, ap (λ (r : Reply). centsHeld (r .book)) q)
+
+    -- the cents that the reply pays
+    pub reply-paid : x .paid ≡ paidBy (b .n) (reply b (record { entry = e; words = w }))
+    unfolding paidBy
+    reply-paid =
+        let p = reply-parts in
+        of-effect (λ x. x .paid ≡ cond (eqb (x .answer) 0) (sum (at (x .words)) n) 0)
+        (λ _. sym (words-sum n (changed n e here .pays) w))
+        (λ h. sym (rw (ne-eqb (refusal (periodChecks n bar e here)) 0 h) refl))
+        ∙ (λ z. cond (eqb (p .0 z) 0) (sum (at (p .1 z)) n) 0)
 
   pub found-affects : Affects (b .n) e (getD (b .periods) j noPeriod) (b .held) w
   found-affects = record {

@@ -18,6 +18,7 @@ mod Bounds
 mod LogLaws
 mod Tracking
 mod Reckoned
+mod KindLaws
 mod LateTracking
 mod EntryTracks
 mod Invariant
@@ -27,7 +28,6 @@ mod Histories
 mod Replies
 mod Named
 mod Effects
-mod PaidLaws
 mod RunLaws
 pub mod RunValid
 mod PostingTurns

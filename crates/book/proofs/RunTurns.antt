@@ -1,35 +1,36 @@
 -- A turn of the block run: an entry that names a period in the book, and a run of energy and amounts.
 use Prim.Native.Nat.{ℕ, zero, suc, _+_, _-_, _≤_}
-use mathlib.Core.Path.{_≡_, sym, ap, subst, subst₂, _∙_}
-use mathlib.Core.Bool.{Bool, true, false, cond}
+use mathlib.Core.Path.{_≡_, refl, sym, ap, subst, subst₂, _∙_}
+use mathlib.Core.Bool.{Bool, true, false}
 use mathlib.Core.Logic.{⊎-elim}
 use mathlib.Core.List.{List, [], _∷_}
 use native.Mathlib.Omega.{arith}
-use borrow.Author.Tests.{eq-eqb}
+use borrow.Author.Tests.{eq-eqb, ne-eqb}
 use lib.Dec.{eqb}
 use lib.ListN.{length, getD}
 use lib.Seq.{sets}
-use Rattle.exact.specs.Rows.{at, sum}
-use Rattle.exact.proofs.Cases.{cases}
+use Rattle.exact.specs.Rows.{places}
+use Rattle.exact.proofs.Cases.{cases, eq-or-ne}
 use Rattle.book.specs.Checks.{refusal}
 use Rattle.book.specs.Kinds.{periodOf}
-use Rattle.book.specs.Periods.{changed}
+use Rattle.book.specs.Periods.{zeros, changed}
 use Rattle.book.specs.Reading.{ReadOutcome, reading}
 use Rattle.book.specs.State.{view, noPeriod}
-use Rattle.book.specs.Rules.{barring, periodChecks}
+use Rattle.book.specs.Rules.{Input, barring, periodChecks, checks}
 use Rattle.book.specs.Step.{reply}
 use Rattle.book.specs.Valid.{Valid}
 use Rattle.book.specs.Acting.{Effect, effect}
 use Rattle.book.specs.Running.{paidBy, run}
-use Rattle.book.specs.Postings.{NamedAt, AmountAt, Postings, posts, postings, cleared}
+use Rattle.book.specs.Postings.{NamedAt, Unnamed, AmountAt, Postings, posts, postings, cleared}
 use Rattle.book.specs.declared.entries.Entry.{Entry}
 use Rattle.book.specs.declared.Period.{Period}
 use Rattle.book.specs.declared.Book.{Book}
 use Rattle.book.proofs.ListLaws.{find-number}
 use Rattle.book.proofs.Packing.{count-is, read-at, put}
-use Rattle.book.proofs.PaidLaws.{Payable, accepted-fits}
+use Rattle.book.proofs.StepLaws.{Opens, Names, enters, by-kind, step-accepted, step-refused, accepted-opens}
+use Rattle.book.proofs.ChangeLaws.{no-pays}
 use Rattle.book.proofs.Named.{Found}
-use Rattle.book.proofs.Effects.{reply-parts}
+use Rattle.book.proofs.Effects.{words-sum, reply-parts, reply-paid}
 use Rattle.book.proofs.RunLaws.{read-or-none, Turn, Standing, goes-on}
 use Rattle.book.proofs.PostingLaws.{Taken, postings-run, postings-valid}
 
@@ -52,21 +53,30 @@ module _ {b : Book} {e : Entry} {j : ℕ} (words : List ℕ) (v : Valid b) (m : 
   named-taken : Taken b j words
   named-taken = record { valid = v; some = m .some; enough = m .enough; used = m .used; at-place = rw (named-number v m) (m .at-place) }
 
--- the words that an effect leaves fit, and the turn is the reply's
+-- the turn of an effect is the reply's
 module _ {b : Book} {e : Entry} {words : List ℕ} {j : ℕ} (f : Found b e words j) (x : Effect)
     (q : x ≡ effect (b .n) e (barring e (view b .periods)) (getD (b .periods) j noPeriod) (b .held) words) where
-  pub effect-fits : x .answer ≡ 0 → Payable (b .n) (x .words)
-  effect-fits z = let p = reply-parts f x q in rw (p .1) (accepted-fits (f .valid) (record { entry = e; words = words }) (sym (p .0) ∙ z))
-
-  pub effect-turn : (lines : List ℕ) (wrote paid : ℕ) (b′ : Book) (lines′ : List ℕ) → b′ ≡ reply b (record { entry = e; words = words }) .book
-      → paid ≡ cond (eqb (x .answer) 0) (sum (at (x .words)) (b .n)) 0 → lines′ ≡ sets lines wrote (x .answer ∷ paid ∷ x .held ∷ [])
-      → Turn b e words lines wrote b′ paid (x .words) lines′
-  unfolding paidBy
-  effect-turn lines wrote paid b′ lines′ t y l =
+  pub effect-turn : (lines : List ℕ) (wrote : ℕ) (b′ : Book) (lines′ : List ℕ) → b′ ≡ reply b (record { entry = e; words = words }) .book
+      → lines′ ≡ sets lines wrote (x .answer ∷ x .paid ∷ x .held ∷ []) → Turn b e words lines wrote b′ (x .paid) (x .words) lines′
+  effect-turn lines wrote b′ lines′ t l =
       let p = reply-parts f x q in
-      let r = reply b (record { entry = e; words = words }) in
-      let z : paid ≡ paidBy (b .n) r = y ∙ (λ i. cond (eqb (p .0 i) 0) (sum (at (p .1 i)) (b .n)) 0) in
+      let z = reply-paid f x q in
       (t, z, p .1, l ∙ (λ i. sets lines wrote (p .0 i ∷ z i ∷ p .2 i ∷ [])))
+
+-- an entry that names no period of the book pays nothing
+pub unnamed-unpaid : (b : Book) (e : Entry) (words : List ℕ) → Unnamed b e (length words) → 0 ≡ paidBy (b .n) (reply b (record { entry = e; words = words }))
+unfolding paidBy reply
+unnamed-unpaid b e words h =
+    let x : Input = record { entry = e; words = words } in
+    ⊎-elim
+    (λ z.
+        let i = enters (view b) x z in
+        ⊎-elim
+        (λ (o : Opens (view b) x). rw (step-accepted (view b) x z ∙ accepted-opens (view b) x o) (omega (arith, words-sum (b .n) (zeros places) words, no-pays (b .n))))
+        (λ (o : Names (view b) x). absurd (omega (arith, o .found, h words refl (i .0) (o .not-open))))
+        (by-kind (view b) x (i .1)))
+    (λ z. rw (step-refused (view b) x z, ne-eqb (refusal (checks (view b) x)) 0 z) refl)
+    (eq-or-ne (refusal (checks (view b) x)) 0)
 
 -- the lines of postings take no more room than there is
 module _ (bytes : List ℕ) (n held : ℕ) where

@@ -44,12 +44,13 @@ pub record Passes (n : ℕ) (e : Entry) (p : Period) : Type 0 where
 abbrev pub changeOf : Change → period.Change
 changeOf c = record { rounds = c .rounds; period = c .period; pays = c .pays }
 
--- what an entry makes of the period that it names, of the cents held and of the payout words
+-- what an entry makes of the period that it names, of the cents held and of the payout words, and the cents it pays
 pub record Effect : Type 0 where
   pub answer : ℕ
   pub rounds : ℕ
   pub period : Period
   pub held : ℕ
+  pub paid : ℕ
   pub words : List ℕ
 
 -- an accepted entry pays what its period pays, out of what is held and its receipt; a refused one changes nothing
@@ -61,9 +62,10 @@ effect n e barred p held words =
       rounds = period.changed n e p .rounds;
       period = period.changed n e p .period;
       held = held + receiptCents e - sum (at (period.changed n e p .pays)) n;
+      paid = sum (at (period.changed n e p .pays)) n;
       words = payoutWords n (period.changed n e p .pays) words;
     })
-    (record { answer = refusal (periodChecks n barred e p); rounds = 0; period = p; held = held; words = words })
+    (record { answer = refusal (periodChecks n barred e p); rounds = 0; period = p; held = held; paid = 0; words = words })
 
 -- what is asked of the period, of the cents held and of the payout words
 pub record Affects (n : ℕ) (e : Entry) (p : Period) (held : ℕ) (words : List ℕ) : Type 0 where
@@ -77,4 +79,4 @@ pub record Affects (n : ℕ) (e : Entry) (p : Period) (held : ℕ) (words : List
 
 -- 01's numbers and values of an effect, with the payout words as it leaves them
 abbrev pub effectOf : affecting.Effect → List ℕ → Effect
-effectOf r words = record { answer = numberOf (r .answer); rounds = r .rounds; period = r .period; held = r .held; words = words }
+effectOf r words = record { answer = numberOf (r .answer); rounds = r .rounds; period = r .period; held = r .held; paid = r .paid; words = words }

@@ -3,12 +3,14 @@ use Prim.Native.Nat.{ℕ, suc, _+_, _-_}
 use mathlib.Core.Bool.{Bool, true, false, cond}
 use mathlib.Core.List.{List, [], _∷_}
 use lib.Dec.{eqb}
+use lib.ListN.{getD}
 use Rattle.exact.specs.Rows.{at, sum}
 use Rattle.exact.specs.Energy.{energyCents}
 use Rattle.settlement.specs.Month.{Month, tiers}
 use Rattle.settlement.specs.Notice as notice
 use Rattle.settlement.specs.Claims as step1
-use Rattle.book.specs.Kinds.{names, isOpen, isSettle, receiptCents}
+use Rattle.book.specs.Entries.{fieldsOf}
+use Rattle.book.specs.Kinds.{names, isOpen, isSettle, isReceipt, receiptCents}
 use Rattle.book.specs.declared.entries.Entry.{Entry}
 use Rattle.book.specs.declared.entries.Entry.the-variants.{Open, Energy, Amount, Notice, Receipt, Settle}
 
@@ -45,12 +47,7 @@ addsTo t i (Settle k) = 0
 
 -- the cents of a receipt from i
 abbrev pub receivedFrom : ℕ → Entry → ℕ
-receivedFrom i (Open k) = 0
-receivedFrom i (Energy k j side quantity price) = 0
-receivedFrom i (Amount k j side tier cents) = 0
-receivedFrom i (Notice k) = 0
-receivedFrom i (Receipt k j cents) = only j i cents
-receivedFrom i (Settle k) = 0
+receivedFrom i e = cond (isReceipt e) (only (getD (fieldsOf e) 1 0) i (receiptCents e)) 0
 
 abbrev pub count : Bool → ℕ
 count true = 1

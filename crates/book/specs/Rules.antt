@@ -4,13 +4,14 @@ use mathlib.Core.Path.{_≡_}
 use mathlib.Core.Bool.{true, Bool, false, cond, not}
 use mathlib.Core.List.{List, [], _∷_}
 use lib.Dec.{eqb, ltb, leb}
-use lib.ListN.{length}
+use lib.ListN.{getD, length}
 use Rattle.exact.specs.Rows.{at}
 use Rattle.exact.specs.Energy.{energyCents}
 use Rattle.settlement.specs.Month.{sideLimit}
 use Rattle.book.specs.Checks.{Check, on}
 use Rattle.book.specs.Allowed.{allowed}
-use Rattle.book.specs.Kinds.{periodOf, isOpen}
+use Rattle.book.specs.Entries.{fieldsOf}
+use Rattle.book.specs.Kinds.{periodOf, isOpen, isReceipt}
 use Rattle.book.specs.Periods.{isOpened, isNoticed, isSettled, sideTotal}
 use Rattle.book.specs.State.{State, mostPeriods, find, periodAt, earlierArrears}
 use Rattle.book.specs.declared.entries.Entry.{Entry}
@@ -58,12 +59,7 @@ settleChecks p = on (not (isNoticed (p .stage))) 9 ∷ []
 
 -- whether an earlier settled period has arrears of the payer: 14
 abbrev pub barring : Entry → List Period → Bool
-barring (Open k) ps = false
-barring (Energy k i side quantity price) ps = false
-barring (Amount k i side tier cents) ps = false
-barring (Notice k) ps = false
-barring (Receipt k i cents) ps = earlierArrears i k ps
-barring (Settle k) ps = false
+barring e ps = cond (isReceipt e) (earlierArrears (getD (fieldsOf e) 1 0) (periodOf e) ps) false
 
 abbrev pub periodChecks : ℕ → Bool → Entry → Period → List Check
 periodChecks n barred (Open k) p = []

@@ -11,40 +11,25 @@ use crate::entries::Entry;
 use exact::put_cells;
 use exact::total;
 
-// The answer, the rounds of a settlement, the period and the cents held afterwards.
+// The answer, the rounds of a settlement, the period and the cents held afterwards, and the cents paid.
 pub struct Effect {
     pub answer: Answer,
     pub rounds: u64,
     pub period: Period,
     pub held: u64,
+    pub paid: u64,
 }
 
 fn receipt_cents(e: Entry) -> u64
     ensures { λ r. ⌜ r ≡ receiptCents e ⌝ }
 {
     match e {
-        Entry::Open { period: _ } => 0,
-        Entry::Energy {
-            period: _,
-            participant: _,
-            side: _,
-            quantity: _,
-            price: _,
-        } => 0,
-        Entry::Amount {
-            period: _,
-            participant: _,
-            side: _,
-            tier: _,
-            cents: _,
-        } => 0,
-        Entry::Notice { period: _ } => 0,
         Entry::Receipt {
             period: _,
             participant: _,
             cents,
         } => cents,
-        Entry::Settle { period: _ } => 0,
+        _ => 0,
     }
 }
 
@@ -68,16 +53,20 @@ pub fn apply_to_period(
             rounds: 0,
             period: p,
             held: held,
+            paid: 0,
         };
     }
     let c = change_period(p, n, e);
     let pays = c.pays;
     put_cells(words, n, pays);
     let q = c.period;
+    let came = held + receipt_cents(e);
+    let paid = total(pays, n);
     Effect {
         answer: answer,
         rounds: c.rounds,
         period: q,
-        held: held + receipt_cents(e) - total(pays, n),
+        held: came - paid,
+        paid: paid,
     }
 }

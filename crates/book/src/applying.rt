@@ -78,23 +78,7 @@ pub fn is_barred(b: Book, e: Entry) -> bool
             participant,
             cents: _,
         } => has_earlier_arrears(b, participant as usize, period),
-        Entry::Open { period: _ } => false,
-        Entry::Energy {
-            period: _,
-            participant: _,
-            side: _,
-            quantity: _,
-            price: _,
-        } => false,
-        Entry::Amount {
-            period: _,
-            participant: _,
-            side: _,
-            tier: _,
-            cents: _,
-        } => false,
-        Entry::Notice { period: _ } => false,
-        Entry::Settle { period: _ } => false,
+        _ => false,
     }
 }
 

@@ -1,23 +1,19 @@
 // A block of the feed: its entries read and applied one after the other, by a function that owns the book for them.
-ghost use Prim.Native.Nat.{_+_, _≤_, _<_, _^_};
+ghost use Prim.Native.Nat.{_+_, _≤_, _<_};
 ghost use mathlib.Core.Path.{_≡_};
-ghost use mathlib.Core.Bool.{true, cond};
-ghost use lib.Dec.{eqb};
+ghost use mathlib.Core.Bool.{true};
 ghost use lib.ListN.{length};
 ghost use lib.Seq.{sets};
-ghost use Rattle.exact.specs.Rows.{places, at, sum};
+ghost use Rattle.exact.specs.Rows.{places};
 ghost use Rattle.book.specs.Allowed.{allowed};
 ghost use Rattle.book.specs.Kinds.{isAmount};
 ghost use Rattle.book.specs.Step.{reply};
 ghost use Rattle.book.specs.Valid.{Valid};
-ghost use Rattle.book.specs.Answers.{numberOf};
 ghost use Rattle.book.specs.Running.{paidBy, lineOf, run};
-ghost use Rattle.book.specs.Postings.{NamedAt, Decides, cleared};
+ghost use Rattle.book.specs.Postings.{NamedAt, Unnamed, Decides, cleared};
 use crate::Book;
 use crate::PERIODS;
 use crate::affecting::apply_to_period;
-use crate::answers::Answer;
-use crate::answers::is_accepted;
 use crate::answers::number;
 use crate::applying::apply;
 use crate::applying::is_barred;
@@ -54,12 +50,6 @@ enum Way {
     Unread,
 }
 
-// The book that an entry leaves, and the cents paid by it.
-struct Listed {
-    book: Book,
-    paid: u64,
-}
-
 fn is_amount(e: Entry) -> bool
     ensures { λ r. ⌜ r ≡ isAmount e ⌝ }
 {
@@ -73,7 +63,7 @@ fn is_amount(e: Entry) -> bool
 // The place of the period that an entry names, where 4, 5 and 8 are passed, or one behind those in use.
 fn named_place(b: Book, e: Entry, room: usize) -> usize
     requires { ⌜ Valid b × (allowed e ≡ true) ⌝ }
-    ensures { λ r. ⌜ (r < b .count → NamedAt b e room r) ⌝ }
+    ensures { λ r. ⌜ (r < b .count → NamedAt b e room r) × (b .count ≤ r → Unnamed b e room) ⌝ }
 {
     if b.n == 0 {
         return PERIODS;
@@ -109,21 +99,6 @@ fn way_at(b: Book, bytes: &[u8], place: usize, room: usize) -> Way
     }
 }
 
-// The cents that an entry paid, by its answer and the payout words that it left.
-fn paid_by(answer: Answer, words: &[u64], n: usize) -> u64
-    requires { ⌜ (n ≤ places) × (numberOf answer ≡ 0 → (n ≤ length (now words)) × (sum (at (now words)) n < 2 ^ 64)) ⌝ }
-    ensures { λ r. ⌜ r ≡ cond (eqb (numberOf answer) 0) (sum (at (now (words .entry))) n) 0 ⌝ }
-{
-    if !is_accepted(answer) {
-        return 0;
-    }
-    let mut paid = 0u64;
-    for i in 0..n {
-        paid = paid + words[i];
-    }
-    paid
-}
-
 // Sets the first n payout words to 0 where an entry was accepted.
 fn clear(words: &mut [u64], n: usize, accepted: bool)
     requires { ⌜ (n ≤ places) × (n ≤ length (now words)) ⌝ }
@@ -134,19 +109,17 @@ fn clear(words: &mut [u64], n: usize, accepted: bool)
     }
 }
 
-// Applies an entry, and puts its line.
-fn apply_listed(b: Book, e: Entry, words: &mut [u64], lines: &mut [u64], k: usize) -> Listed
-    requires { ⌜ Valid b × (k + 3 ≤ length (now lines)) ⌝ }
+// Applies an entry that pays nothing, and puts its line.
+fn apply_listed(b: Book, e: Entry, words: &mut [u64], lines: &mut [u64], k: usize) -> Book
+    requires { ⌜ Valid b × (k + 3 ≤ length (now lines)) × Unnamed b e (length (now words)) ⌝ }
     ensures { λ r. let x = reply b (record { entry = e; words = now (words .entry) }) in
-        ⌜ (r .book ≡ x .book) × (r .paid ≡ paidBy (b .n) x) × (now (words .exit) ≡ x .words) × (now (lines .exit) ≡ sets (now (lines .entry)) k (lineOf (b .n) x)) ⌝ }
+        ⌜ (r ≡ x .book) × (0 ≡ paidBy (b .n) x) × (now (words .exit) ≡ x .words) × (now (lines .exit) ≡ sets (now (lines .entry)) k (lineOf (b .n) x)) ⌝ }
 {
-    let n = b.n;
     let r = apply(b, e, words);
     let answer = r.answer;
     let left = r.book;
-    let paid = paid_by(answer, words, n);
-    put_line(lines, k, number(answer), paid, left.held);
-    Listed { book: left, paid }
+    put_line(lines, k, number(answer), 0, left.held);
+    left
 }
 
 // Reads and applies entries from a place on, up to one that cannot be read or has paid, while there is room for lines.
@@ -176,8 +149,7 @@ pub fn run(first: Book, bytes: &[u8], from: usize, words: &mut [u64], lines: &mu
                 let r = apply_to_period(p, b.n, entry, is_barred(b, entry), b.held, words);
                 let q = r.period;
                 let answer = r.answer;
-                let paid = paid_by(answer, words, b.n);
-                put_line(lines, wrote, number(answer), paid, r.held);
+                put_line(lines, wrote, number(answer), r.paid, r.held);
                 place = next;
                 wrote += LINE;
                 if is_leaving(q, b.n) {
@@ -187,19 +159,15 @@ pub fn run(first: Book, bytes: &[u8], from: usize, words: &mut [u64], lines: &mu
                     b.periods[j] = q;
                     b.held = r.held;
                 }
-                if paid != 0 {
+                if r.paid != 0 {
                     break;
                 }
             }
             Way::ByApply { entry, next } => {
-                let r = apply_listed(b, entry, words, lines, wrote);
-                let left = r.book;
+                let left = apply_listed(b, entry, words, lines, wrote);
                 b = left;
                 place = next;
                 wrote += LINE;
-                if r.paid != 0 {
-                    break;
-                }
             }
             Way::Unread => break,
         }

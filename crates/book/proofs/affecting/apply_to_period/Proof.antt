@@ -38,7 +38,7 @@ returns c =
     let ne = eqb-false _ _ (sym (c .before .is-accepted .ensures) ∙ not-true _ (c .if1 .taken)) in
     let a = c .before .before .period-answer .ensures in
     sym (effect-refused (s .args .n) (s .args .e) (s .args .barred) (s .args .p) (s .args .held) (s .args .words .now) (λ z. ne (a ∙ z))
-    ∙ ap (λ (k : ℕ). record { answer = k; rounds = 0; period = s .args .p; held = s .args .held; words = s .args .words .now }) (sym a))
+    ∙ ap (λ (k : ℕ). record { answer = k; rounds = 0; period = s .args .p; held = s .args .held; paid = 0; words = s .args .words .now }) (sym a))
 
 change-period-requires : tie.Need-change-period-requires
 change-period-requires c κs =
@@ -51,8 +51,8 @@ put-cells-requires c κs = let s = c .before .before .before .before .before .be
 receipt-cents-requires : tie.Need-receipt-cents-requires
 receipt-cents-requires c κs = search needs
 
-add-t17 : tie.Need-add-t17
-add-t17 c = omega (arith, c .receipt-cents .ensures, c .before .before .before .before .before .before .before .before .before .before .before .before .pre .fits)
+add-came : tie.Need-add-came
+add-came c = omega (arith, c .receipt-cents .ensures, c .before .before .before .before .before .before .before .before .before .before .before .before .pre .fits)
 
 total-requires : tie.Need-total-requires
 total-requires c κs =
@@ -60,8 +60,8 @@ total-requires c κs =
     let q = c .before .before .before .before .before .before .before .change-period .ensures in
     (s .pre .many, rw (ap (λ (x : period.Change). x .pays) q) (omega (arith, paid-within (c .before .before .before .before .before .before .before .before), s .pre .fits)))
 
-sub-t19 : tie.Need-sub-t19
-sub-t19 c =
+sub-t18 : tie.Need-sub-t18
+sub-t18 c =
     let s = c .before .before .before .before .before .before .before .before .before .before .before .before .before in
     let q = c .before .before .before .before .before .before .before .before .change-period .ensures in
     let t = c .total .ensures ∙ ap (λ (x : period.Change). sum (at (x .pays)) (s .args .n)) q in
@@ -82,6 +82,7 @@ returns-2 c =
       rounds = q z .rounds;
       period = q z .period;
       held = s .args .held + c .before .receipt-cents .ensures z - t z;
+      paid = t z;
       words = (c .before .before .before .before .before .put-cells .ensures ∙ ap (λ (x : period.Change). payoutWords (s .args .n) (x .pays) (s .args .words .now)) q) z;
     })
     ∙ sym (effect-accepted (s .args .n) (s .args .e) (s .args .barred) (s .args .p) (s .args .held) (s .args .words .now) h)
@@ -96,8 +97,8 @@ apply-to-period-spec =
     change-period-requires
     put-cells-requires
     receipt-cents-requires
-    add-t17
+    add-came
     total-requires
-    sub-t19
+    sub-t18
     same-length
     returns-2)

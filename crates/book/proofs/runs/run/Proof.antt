@@ -12,13 +12,13 @@ use Rattle.book.specs.State.{view, noPeriod}
 use Rattle.book.specs.Rules.{barring}
 use Rattle.book.specs.Step.{Reply, reply}
 use Rattle.book.specs.Acting.{effect, effectOf}
-use Rattle.book.specs.Postings.{NamedAt, AmountAt, Decides}
+use Rattle.book.specs.Postings.{NamedAt, Unnamed, AmountAt, Decides}
 use Rattle.book.proofs.Packing.{count-is, count-few, read-in-book}
 use Rattle.book.proofs.Bounds.{arrears-bound}
 use Rattle.book.proofs.Named.{Found}
 use Rattle.book.proofs.Effects.{found-affects, effect-sound, reply-stays, leaves-held, reply-leaves}
 use Rattle.book.proofs.RunLaws.{Turn, Standing, begins, full-ends, unread-ends, turn-on, turn-ends}
-use Rattle.book.proofs.RunTurns.{named-found, effect-fits, effect-turn, amounts-on, amounts-some}
+use Rattle.book.proofs.RunTurns.{named-found, effect-turn, amounts-on, amounts-some}
 use Rattle.book.proofs.runs.run.Statement.{statement}
 use Rattle.book.proofs.runs.run.Tie as tie
 
@@ -42,7 +42,7 @@ named-at c =
     subst (Decides (l .b) (c .before .before .before .before .before .before .before .before .before .args .bytes .now) (l .place) (length (l .words))) (c .before .j2 .given .1) (c .before .before .before .way-at .ensures)
 
 other-at : (c : tie.After-known-told3 Inv-loop μ-loop) → let l = c .before .before .before .before .before .loop in let x = c .before .entry .given .0 in
-    reading (c .before .before .before .before .before .before .before .before .before .args .bytes .now) (l .place) ≡ record { answer = 0; place = x .1 .0; entry = x .0 ∷ [] }
+    (reading (c .before .before .before .before .before .before .before .before .before .args .bytes .now) (l .place) ≡ record { answer = 0; place = x .1 .0; entry = x .0 ∷ [] }) × Unnamed (l .b) (x .0) (length (l .words))
 other-at c =
     let l = c .before .before .before .before .before .loop in
     subst (Decides (l .b) (c .before .before .before .before .before .before .before .before .before .args .bytes .now) (l .place) (length (l .words))) (c .before .entry .given .1) (c .before .before .before .way-at .ensures)
@@ -57,22 +57,22 @@ affected : (c : tie.After-apply-to-period Inv-loop μ-loop) → let l = c .befor
 affected c = rw (c .before .before .is-barred .ensures) at (c .apply-to-period .ensures)
 
 -- the book that it leaves is the reply's, whether the period stays or leaves
-left-book : (c : tie.Joined1 Inv-loop μ-loop) → let l = c .before .before .before .before .before .before .before .before .before .before .before .before .before .before .before .before .before .before .before .before .before .loop in let x = c .before .before .before .before .before .before .before .before .before .before .before .before .before .before .before .before .before .j2 .given .0 in
+left-book : (c : tie.Joined1 Inv-loop μ-loop) → let l = c .before .before .before .before .before .before .before .before .before .before .before .before .before .before .before .before .before .before .before .loop in let x = c .before .before .before .before .before .before .before .before .before .before .before .before .before .before .before .j2 .given .0 in
     c .if1 .b ≡ reply (l .b) (record { entry = x .1 .0; words = l .words }) .book
 left-book c =
-    let f = found (c .before .before .before .before .before .before .before .before .before .before .before .before .before .before .before .before) in
-    let q = affected (c .before .before .before .before .before .before .before .before .before .before .before .before) in
+    let f = found (c .before .before .before .before .before .before .before .before .before .before .before .before .before .before) in
+    let q = affected (c .before .before .before .before .before .before .before .before .before .before) in
     ⊎-elim
     (λ w. w .2 ∙ w .1 .ensures ∙ ap (λ (r : Reply). r .book) (reply-leaves f _ q (sym (c .before .is-leaving .ensures) ∙ w .0 .taken)))
     (λ w. w .1 ∙ ap (λ (r : Reply). r .book) (reply-stays f _ q (sym (c .before .is-leaving .ensures) ∙ w .0 .left)))
     (c .if1 .came)
 
-named-turn : (c : tie.Joined1 Inv-loop μ-loop) → let l = c .before .before .before .before .before .before .before .before .before .before .before .before .before .before .before .before .before .before .before .before .before .loop in let x = c .before .before .before .before .before .before .before .before .before .before .before .before .before .before .before .before .before .j2 .given .0 in
-    Turn (l .b) (x .1 .0) (l .words) (l .lines) (l .wrote) (c .if1 .b) (c .before .before .before .before .before .before .before .paid-by .result) (c .before .before .before .before .before .before .before .before .before .before .before .before .apply-to-period .last .1 .1 .1 .1 .1 .0) (c .before .before .before .before .put-line .last .0)
+named-turn : (c : tie.Joined1 Inv-loop μ-loop) → let l = c .before .before .before .before .before .before .before .before .before .before .before .before .before .before .before .before .before .before .before .loop in let x = c .before .before .before .before .before .before .before .before .before .before .before .before .before .before .before .j2 .given .0 in
+    Turn (l .b) (x .1 .0) (l .words) (l .lines) (l .wrote) (c .if1 .b) (c .before .before .before .before .before .before .before .before .before .before .apply-to-period .result .paid) (c .before .before .before .before .before .before .before .before .before .before .apply-to-period .last .1 .1 .1 .1 .1 .0) (c .before .before .before .before .put-line .last .0)
 named-turn c =
-    let l = c .before .before .before .before .before .before .before .before .before .before .before .before .before .before .before .before .before .before .before .before .before .loop in
-    effect-turn (found (c .before .before .before .before .before .before .before .before .before .before .before .before .before .before .before .before)) _ (affected (c .before .before .before .before .before .before .before .before .before .before .before .before)) (l .lines) (l .wrote) _ _ _ (left-book c) (c .before .before .before .before .before .before .before .paid-by .ensures)
-    (c .before .before .before .before .put-line .ensures ∙ (λ z. sets (l .lines) (l .wrote) (c .before .before .before .before .before .number .ensures z ∷ c .before .before .before .before .before .before .before .paid-by .result ∷ c .before .before .before .before .before .before .before .before .before .before .before .before .apply-to-period .result .held ∷ [])))
+    let l = c .before .before .before .before .before .before .before .before .before .before .before .before .before .before .before .before .before .before .before .loop in
+    effect-turn (found (c .before .before .before .before .before .before .before .before .before .before .before .before .before .before)) _ (affected (c .before .before .before .before .before .before .before .before .before .before)) (l .lines) (l .wrote) _ _ (left-book c)
+    (c .before .before .before .before .put-line .ensures ∙ (λ z. sets (l .lines) (l .wrote) (c .before .before .before .before .before .number .ensures z ∷ c .before .before .before .before .before .before .before .before .before .before .apply-to-period .result .paid ∷ c .before .before .before .before .before .before .before .before .before .before .apply-to-period .result .held ∷ [])))
 
 loop-holds : tie.Need-loop-holds Inv-loop μ-loop
 loop-holds c = (begins _ _ _ _ _ (c .before .before .before .pre), refl)
@@ -138,61 +138,57 @@ is-barred-requires c κs = (c .before .before .before .before .before .before .l
 apply-to-period-requires : tie.Need-apply-to-period-requires Inv-loop μ-loop
 apply-to-period-requires c κs = found-affects (found (c .before .before .before))
 
-paid-by-requires : tie.Need-paid-by-requires Inv-loop μ-loop
-paid-by-requires c κs =
-    (c .before .before .before .before .before .before .before .before .before .before .before .before .before .loop .inv .0 .valid .fit .many, λ z. let f = effect-fits (found (c .before .before .before .before .before .before .before .before)) _ (affected (c .before .before .before .before)) z in (f .enough, f .fits))
-
 number-requires : tie.Need-number-requires Inv-loop μ-loop
 number-requires c κs = search needs
 
 put-line-requires : tie.Need-put-line-requires Inv-loop μ-loop
-put-line-requires c κs = omega (arith, c .before .before .before .before .before .before .before .before .before .before .before .before .before .before .before .before .loop .inv .0 .room, c .before .before .before .before .before .before .before .before .before .before .before .before .before .before .before .loop-test .taken)
+put-line-requires c κs = omega (arith, c .before .before .before .before .before .before .before .before .before .before .before .before .before .before .loop .inv .0 .room, c .before .before .before .before .before .before .before .before .before .before .before .before .before .loop-test .taken)
 
 add-wrote : tie.Need-add-wrote Inv-loop μ-loop
-add-wrote c = omega (arith, c .before .before .before .before .before .before .before .before .before .before .before .before .before .before .before .before .before .before .before .loop .inv .0 .size, c .before .before .before .before .before .before .before .before .before .before .before .before .before .before .before .before .before .before .before .before .before .before .before .good, c .before .before .before .before .before .before .before .before .before .before .before .before .before .before .before .before .before .before .loop-test .taken)
+add-wrote c = omega (arith, c .before .before .before .before .before .before .before .before .before .before .before .before .before .before .before .before .before .loop .inv .0 .size, c .before .before .before .before .before .before .before .before .before .before .before .before .before .before .before .before .before .before .before .before .before .good, c .before .before .before .before .before .before .before .before .before .before .before .before .before .before .before .before .loop-test .taken)
 
 is-leaving-requires : tie.Need-is-leaving-requires Inv-loop μ-loop
 is-leaving-requires c κs =
-    let l = c .before .before .before .before .before .before .before .before .before .before .before .before .before .before .before .before .before .before .before .loop in
-    let sound = effect-sound (found (c .before .before .before .before .before .before .before .before .before .before .before .before .before .before)) _ (affected (c .before .before .before .before .before .before .before .before .before .before)) in
+    let l = c .before .before .before .before .before .before .before .before .before .before .before .before .before .before .before .before .before .loop in
+    let sound = effect-sound (found (c .before .before .before .before .before .before .before .before .before .before .before .before)) _ (affected (c .before .before .before .before .before .before .before .before)) in
     (l .inv .0 .valid .fit .many, λ z. omega (arith, arrears-bound (l .b .n) _ sound z))
 
 without-period-requires : tie.Need-without-period-requires Inv-loop μ-loop
 without-period-requires c κs =
-    let l = c .before .before .before .before .before .before .before .before .before .before .before .before .before .before .before .before .before .before .before .before .before .loop in
-    let f = found (c .before .before .before .before .before .before .before .before .before .before .before .before .before .before .before .before) in
-    (l .inv .0 .valid, omega (arith, count-is (l .inv .0 .valid), f .used), leaves-held f _ (affected (c .before .before .before .before .before .before .before .before .before .before .before .before)) (sym (c .before .is-leaving .ensures) ∙ c .if1 .taken))
+    let l = c .before .before .before .before .before .before .before .before .before .before .before .before .before .before .before .before .before .before .before .loop in
+    let f = found (c .before .before .before .before .before .before .before .before .before .before .before .before .before .before) in
+    (l .inv .0 .valid, omega (arith, count-is (l .inv .0 .valid), f .used), leaves-held f _ (affected (c .before .before .before .before .before .before .before .before .before .before)) (sym (c .before .is-leaving .ensures) ∙ c .if1 .taken))
 
 mul-q-2 : tie.Need-mul-q-2 Inv-loop μ-loop
-mul-q-2 c = omega (arith, count-few (c .before .before .before .before .before .before .before .before .before .before .before .before .before .before .before .before .before .before .before .before .before .loop .inv .0 .valid), found (c .before .before .before .before .before .before .before .before .before .before .before .before .before .before .before .before) .used)
+mul-q-2 c = omega (arith, count-few (c .before .before .before .before .before .before .before .before .before .before .before .before .before .before .before .before .before .before .before .loop .inv .0 .valid), found (c .before .before .before .before .before .before .before .before .before .before .before .before .before .before) .used)
 
 element-set-from-q-2 : tie.Need-element-set-from-q-2 Inv-loop μ-loop
-element-set-from-q-2 c = omega (arith, count-few (c .before .before .before .before .before .before .before .before .before .before .before .before .before .before .before .before .before .before .before .before .before .loop .inv .0 .valid), found (c .before .before .before .before .before .before .before .before .before .before .before .before .before .before .before .before) .used)
+element-set-from-q-2 c = omega (arith, count-few (c .before .before .before .before .before .before .before .before .before .before .before .before .before .before .before .before .before .before .before .loop .inv .0 .valid), found (c .before .before .before .before .before .before .before .before .before .before .before .before .before .before) .used)
 
 loop-less-2 : tie.Need-loop-less-2 Inv-loop μ-loop
-loop-less-2 c = omega (arith, c .before .before .before .before .before .put-line .kept .0, c .before .before .before .before .before .before .before .before .before .before .before .before .before .before .before .before .before .before .before .before .before .before .loop .inv .0 .room, c .before .before .before .before .before .before .before .before .before .before .before .before .before .before .before .before .before .before .before .before .before .loop-test .taken)
+loop-less-2 c = omega (arith, c .before .before .before .before .before .before .put-line .kept .0, c .before .before .before .before .before .before .before .before .before .before .before .before .before .before .before .before .before .before .before .before .before .loop .inv .0 .room, c .before .before .before .before .before .before .before .before .before .before .before .before .before .before .before .before .before .before .before .before .loop-test .taken)
 
 loop-again-2 : tie.Need-loop-again-2 Inv-loop μ-loop
 loop-again-2 c =
-    let l = c .before .before .before .before .before .before .before .before .before .before .before .before .before .before .before .before .before .before .before .before .before .before .loop in
-    (turn-on _ _ _ _ _ (l .inv .0) _ _ (named-at (c .before .before .before .before .before .before .before .before .before .before .before .before .before .before .before .before .before) .0) (c .before .before .before .before .before .before .before .before .before .before .before .before .before .before .before .before .before .before .before .before .before .loop-test .taken) _ _ _ _ (named-turn (c .before)) (c .if2 .left), c .before .before .before .before .before .before .before .before .before .before .before .before .before .apply-to-period .kept .1 .1 .1 .1 .1 .0 ∙ l .inv .1)
+    let l = c .before .before .before .before .before .before .before .before .before .before .before .before .before .before .before .before .before .before .before .before .before .loop in
+    (turn-on _ _ _ _ _ (l .inv .0) _ _ (named-at (c .before .before .before .before .before .before .before .before .before .before .before .before .before .before .before .before) .0) (c .before .before .before .before .before .before .before .before .before .before .before .before .before .before .before .before .before .before .before .before .loop-test .taken) _ _ _ _ (named-turn (c .before .before)) (c .if2 .left), c .before .before .before .before .before .before .before .before .before .before .before .before .apply-to-period .kept .1 .1 .1 .1 .1 .0 ∙ l .inv .1)
 
 enum-known-entry : tie.Need-enum-known-entry Inv-loop μ-loop
 enum-known-entry c = search needs
 
 apply-listed-requires : tie.Need-apply-listed-requires Inv-loop μ-loop
-apply-listed-requires c κs = (c .before .before .before .before .before .before .before .loop .inv .0 .valid, omega (arith, c .before .before .before .before .before .before .before .loop .inv .0 .room, c .before .before .before .before .before .before .loop-test .taken))
+apply-listed-requires c κs = (c .before .before .before .before .before .before .before .loop .inv .0 .valid, omega (arith, c .before .before .before .before .before .before .before .loop .inv .0 .room, c .before .before .before .before .before .before .loop-test .taken), other-at (c .before .before) .1)
 
 add-wrote-2 : tie.Need-add-wrote-2 Inv-loop μ-loop
-add-wrote-2 c = omega (arith, c .before .before .before .before .before .before .before .before .before .before .before .before .before .loop .inv .0 .size, c .before .before .before .before .before .before .before .before .before .before .before .before .before .before .before .before .before .good, c .before .before .before .before .before .before .before .before .before .before .before .before .loop-test .taken)
+add-wrote-2 c = omega (arith, c .before .before .before .before .before .before .before .before .before .before .before .before .loop .inv .0 .size, c .before .before .before .before .before .before .before .before .before .before .before .before .before .before .before .before .good, c .before .before .before .before .before .before .before .before .before .before .before .loop-test .taken)
 
 loop-less-3 : tie.Need-loop-less-3 Inv-loop μ-loop
-loop-less-3 c = omega (arith, c .before .before .before .before .before .before .before .apply-listed .kept .1 .1 .1 .0, c .before .before .before .before .before .before .before .before .before .before .before .before .before .before .before .loop .inv .0 .room, c .before .before .before .before .before .before .before .before .before .before .before .before .before .before .loop-test .taken)
+loop-less-3 c = omega (arith, c .before .before .before .before .apply-listed .kept .1 .1 .1 .0, c .before .before .before .before .before .before .before .before .before .before .before .before .loop .inv .0 .room, c .before .before .before .before .before .before .before .before .before .before .before .loop-test .taken)
 
 loop-again-3 : tie.Need-loop-again-3 Inv-loop μ-loop
 loop-again-3 c =
-    let l = c .before .before .before .before .before .before .before .before .before .before .before .before .before .before .before .loop in
-    (turn-on _ _ _ _ _ (l .inv .0) _ _ (other-at (c .before .before .before .before .before .before .before .before .before .before)) (c .before .before .before .before .before .before .before .before .before .before .before .before .before .before .loop-test .taken) _ _ _ _ (c .before .before .before .before .before .before .before .apply-listed .ensures) (c .if3 .left), c .before .before .before .before .before .before .before .apply-listed .kept .1 .1 .0 ∙ l .inv .1)
+    let l = c .before .before .before .before .before .before .before .before .before .before .before .before .loop in
+    (turn-on _ _ _ _ _ (l .inv .0) _ _ (other-at (c .before .before .before .before .before .before .before) .0) (c .before .before .before .before .before .before .before .before .before .before .before .loop-test .taken) _ _ _ _ (c .before .before .before .before .apply-listed .ensures) refl, c .before .before .before .before .apply-listed .kept .1 .1 .0 ∙ l .inv .1)
 
 enum-told : tie.Need-enum-told Inv-loop μ-loop
 enum-told c = search needs
@@ -207,31 +203,22 @@ returns : tie.Need-returns Inv-loop μ-loop
 returns c = full-ends _ _ _ _ _ (c .before .loop .inv .0) (omega (arith, c .loop-test .left))
 
 same-length-3 : tie.Need-same-length-3 Inv-loop μ-loop
-same-length-3 c = c .before .before .before .before .before .before .before .before .before .before .before .before .before .apply-to-period .kept .1 .1 .1 .1 .1 .0 ∙ c .before .before .before .before .before .before .before .before .before .before .before .before .before .before .before .before .before .before .before .before .before .before .loop .inv .1
+same-length-3 c = c .before .before .before .before .before .before .before .before .before .before .before .before .apply-to-period .kept .1 .1 .1 .1 .1 .0 ∙ c .before .before .before .before .before .before .before .before .before .before .before .before .before .before .before .before .before .before .before .before .before .loop .inv .1
 
 same-length-4 : tie.Need-same-length-4 Inv-loop μ-loop
-same-length-4 c = c .before .before .before .before .before .put-line .kept .0 ∙ c .before .before .before .before .before .before .before .before .before .before .before .before .before .before .before .before .before .before .before .before .before .before .loop .inv .0 .size
+same-length-4 c = c .before .before .before .before .before .before .put-line .kept .0 ∙ c .before .before .before .before .before .before .before .before .before .before .before .before .before .before .before .before .before .before .before .before .before .loop .inv .0 .size
 
 returns-2 : tie.Need-returns-2 Inv-loop μ-loop
-returns-2 c = turn-ends _ _ _ _ _ (c .before .before .before .before .before .before .before .before .before .before .before .before .before .before .before .before .before .before .before .before .before .before .loop .inv .0) _ _ (named-at (c .before .before .before .before .before .before .before .before .before .before .before .before .before .before .before .before .before) .0) (c .before .before .before .before .before .before .before .before .before .before .before .before .before .before .before .before .before .before .before .before .before .loop-test .taken) _ _ _ _ (named-turn (c .before)) (c .if2 .taken)
+returns-2 c = turn-ends _ _ _ _ _ (c .before .before .before .before .before .before .before .before .before .before .before .before .before .before .before .before .before .before .before .before .before .loop .inv .0) _ _ (named-at (c .before .before .before .before .before .before .before .before .before .before .before .before .before .before .before .before) .0) (c .before .before .before .before .before .before .before .before .before .before .before .before .before .before .before .before .before .before .before .before .loop-test .taken) _ _ _ _ (named-turn (c .before .before)) (c .if2 .taken)
 
 same-length-5 : tie.Need-same-length-5 Inv-loop μ-loop
-same-length-5 c = c .before .before .before .before .before .before .before .apply-listed .kept .1 .1 .0 ∙ c .before .before .before .before .before .before .before .before .before .before .before .before .before .before .before .loop .inv .1
+same-length-5 c = c .before .before .before .before .loop .inv .1
 
 same-length-6 : tie.Need-same-length-6 Inv-loop μ-loop
-same-length-6 c = c .before .before .before .before .before .before .before .apply-listed .kept .1 .1 .1 .0 ∙ c .before .before .before .before .before .before .before .before .before .before .before .before .before .before .before .loop .inv .0 .size
+same-length-6 c = c .before .before .before .before .loop .inv .0 .size
 
 returns-3 : tie.Need-returns-3 Inv-loop μ-loop
-returns-3 c = turn-ends _ _ _ _ _ (c .before .before .before .before .before .before .before .before .before .before .before .before .before .before .before .loop .inv .0) _ _ (other-at (c .before .before .before .before .before .before .before .before .before .before)) (c .before .before .before .before .before .before .before .before .before .before .before .before .before .before .loop-test .taken) _ _ _ _ (c .before .before .before .before .before .before .before .apply-listed .ensures) (c .if3 .taken)
-
-same-length-7 : tie.Need-same-length-7 Inv-loop μ-loop
-same-length-7 c = c .before .before .before .before .loop .inv .1
-
-same-length-8 : tie.Need-same-length-8 Inv-loop μ-loop
-same-length-8 c = c .before .before .before .before .loop .inv .0 .size
-
-returns-4 : tie.Need-returns-4 Inv-loop μ-loop
-returns-4 c =
+returns-3 c =
     let l = c .before .before .before .before .loop in
     unread-ends _ _ _ _ _ (l .inv .0) (subst (Decides (l .b) (c .before .before .before .before .before .before .before .before .args .bytes .now) (l .place) (length (l .words))) (c .enum-told .given .1) (c .before .before .way-at .ensures))
 
@@ -258,7 +245,6 @@ run-spec =
     element-copy-out-p-2
     is-barred-requires
     apply-to-period-requires
-    paid-by-requires
     number-requires
     put-line-requires
     add-wrote
@@ -282,7 +268,4 @@ run-spec =
     returns-2
     same-length-5
     same-length-6
-    returns-3
-    same-length-7
-    same-length-8
-    returns-4)
+    returns-3)

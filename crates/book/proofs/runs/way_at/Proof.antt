@@ -22,7 +22,7 @@ named-place-requires : tie.Need-named-place-requires
 named-place-requires c κs = (c .before .before .before .before .before .pre, read-allowed _ _ _ (ap (λ (o : ReadOutcome). o .entry) (read c)))
 
 returns : tie.Need-returns
-returns c = read (c .before .before .before)
+returns c = (read (c .before .before .before), c .before .before .named-place .ensures .1 (c .if1 .taken))
 
 is-amount-requires : tie.Need-is-amount-requires
 is-amount-requires c κs = search needs
@@ -32,7 +32,7 @@ returns-2 c = record {
   entry = _;
   next = _;
   read = read (c .before .before .before .before .before);
-  named = c .before .before .before .before .named-place .ensures (c .before .before .if1 .left);
+  named = c .before .before .before .before .named-place .ensures .0 (c .before .before .if1 .left);
   amount = sym (c .before .is-amount .ensures) ∙ c .if2 .taken;
 }
 
@@ -46,7 +46,7 @@ enum-told-3 : tie.Need-enum-told-3
 enum-told-3 c = search needs
 
 returns-3 : tie.Need-returns-3
-returns-3 c = (read (c .before .before .before .before .before), c .before .before .before .before .named-place .ensures (c .before .before .if1 .left))
+returns-3 c = (read (c .before .before .before .before .before), c .before .before .before .before .named-place .ensures .0 (c .before .before .if1 .left))
 
 returns-4 : tie.Need-returns-4
 returns-4 c = ap (λ (o : ReadOutcome). o .entry) (sym (c .before .before .read-next .ensures) ∙ ap (readOutcome (c .before .before .before .before .args .place)) (c .enum-told .given .1))
