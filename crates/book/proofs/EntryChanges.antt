@@ -1,25 +1,24 @@
 -- What every accepted entry makes of its period, and of the cents that it holds.
 use Prim.Native.Nat.{ℕ, _+_}
-use mathlib.Core.Path.{_≡_, sym, ap, subst}
+use mathlib.Core.Path.{_≡_, refl, sym, ap, subst}
 use mathlib.Core.Bool.{Bool, true, false, true≢false}
 use mathlib.Core.Logic.{⊎-elim}
 use native.Mathlib.Omega.{arith}
 use Rattle.exact.specs.Rows.{at, sum}
-use Rattle.exact.specs.Energy.{energyCents}
 use Rattle.exact.proofs.RowLaws.{sum-cong}
-use Rattle.settlement.specs.Month.{tiers}
 use Rattle.settlement.specs.Settling.{held}
 use Rattle.book.specs.Checks.{refusal}
 use Rattle.book.specs.Allowed.{allowed}
-use Rattle.book.specs.Kinds.{isOpen, receiptCents}
-use Rattle.book.specs.Periods.{isSettled, holds, leaves, Change, changed, paysNothing, withReceipt, withLateReceipt}
-use Rattle.book.specs.Rules.{periodChecks}
+use Rattle.book.specs.Kinds.{isOpen, isAmount, addition, receiptCents}
+use Rattle.book.specs.Periods.{isSettled, holds, leaves, Change, changed, paysNothing, withAddition, withReceipt, withLateReceipt}
+use Rattle.book.specs.Rules.{amountChecks, periodChecks}
 use Rattle.book.specs.Valid.{Sound, AtStage, AfterSettlement}
 use Rattle.book.specs.declared.Stage.the-variants.{Noticed, Settled}
 use Rattle.book.specs.declared.entries.Entry.{Entry}
 use Rattle.book.specs.declared.entries.Entry.the-variants.{Open, Energy, Amount, Notice, Receipt, Settle}
 use Rattle.book.specs.declared.Period.{Period}
-use Rattle.book.proofs.Passing.{amount-placed, energy-placed, amount-passes, notice-passes, receipt-passes, settle-passes, settled-stage}
+use Rattle.book.proofs.Passing.{amount-passes, notice-passes, receipt-passes, settle-passes, settled-stage}
+use Rattle.book.proofs.AdditionLaws.{amount-within}
 use Rattle.book.proofs.ChangeLaws.{Changes, amount-changes, notice-changes, receipt-changes, left-settled, paid-within}
 use Rattle.book.proofs.SettlementLaws.{settle-changes, late-changes}
 
@@ -34,14 +33,18 @@ module _ (n : ℕ) (p : Period) (k i cents : ℕ) where
   changed-late q = rw (ap isSettled q)
 
 module _ (n : ℕ) (p : Period) (s : Sound n p) where
+  adds : (e : Entry) → isAmount e ≡ true → allowed e ≡ true → refusal (amountChecks n p (addition e)) ≡ 0
+      → Changes n 0 p (paysNothing (withAddition p (addition e)))
+  adds e q a z =
+      let d = addition e in
+      amount-changes n p s (d .participant) (d .tier) (d .cents) (d .side) (amount-within e q a .placed) (amount-passes n p d z)
+
   pub entry-changes : (e : Entry) (barred : Bool) → isOpen e ≡ false → allowed e ≡ true → refusal (periodChecks n barred e p) ≡ 0
       → Changes n (receiptCents e) p (changed n e p)
   unfolding changed
   entry-changes (Open k) barred o a e = absurd (true≢false o)
-  entry-changes (Energy k i side quantity price) barred o a e =
-      amount-changes n p s i tiers (energyCents quantity price) side (energy-placed k i side quantity price a) (amount-passes n p i side (energyCents quantity price) e)
-  entry-changes (Amount k i side tier cents) barred o a e =
-      amount-changes n p s i tier cents side (amount-placed k i side tier cents a) (amount-passes n p i side cents e)
+  entry-changes (Energy k i side quantity price) barred o a e = adds (Energy k i side quantity price) refl a e
+  entry-changes (Amount k i side tier cents) barred o a e = adds (Amount k i side tier cents) refl a e
   entry-changes (Notice k) barred o a e = notice-changes n p s (notice-passes n p e)
   entry-changes (Receipt k i cents) barred o a e =
       let f = receipt-passes n p barred i cents e in

@@ -1,16 +1,16 @@
 -- Laws of kinds, layouts and allowed values.
-use mathlib.Core.Path.{_≡_, refl, _∙_}
+use mathlib.Core.Path.{_≡_, refl, sym, ap, _∙_}
 use mathlib.Core.Bool.{Bool, true, false, cond, true≢false}
 use mathlib.Core.List.{List, _++_}
 use Prim.Native.Nat.{ℕ, zero, suc, _+_, _≤_, _<_}
 use native.Mathlib.Nat.{zero-add, pos-of-ne-zero}
 use native.Mathlib.Omega.{arith}
-use borrow.Author.Tests.{leb-false, eqb-false}
+use borrow.Author.Tests.{leb-false, eqb-true, eqb-false}
 use lib.Dec.{eqb, leb}
 use lib.ListN.{length, drop}
 use lib.Seq.{sets, sets-eq}
 use Rattle.book.specs.Fields.{bytes, fieldsAt, fieldBytes}
-use Rattle.book.specs.Kinds.{isOpen, isAmount}
+use Rattle.book.specs.Kinds.{field, isReceipt}
 use Rattle.book.specs.Entries.{bodyLengths, bodyLength, unknown, layout, kindOf, fieldsOf, entryOf, bytesOf, size}
 use Rattle.book.specs.declared.entries.Entry.{Entry}
 use Rattle.book.specs.declared.entries.Entry.the-variants.{Open, Energy, Amount, Notice, Receipt, Settle}
@@ -56,6 +56,11 @@ entry-again (Notice _) = refl
 entry-again (Receipt _ _ _) = refl
 entry-again (Settle _) = refl
 
+-- a receipt, by its fields
+pub is-receipt : (e : Entry) → isReceipt e ≡ true → e ≡ Receipt (field e 0) (field e 1) (field e 2)
+unfolding entryOf
+is-receipt e q = sym (entry-again e) ∙ ap (λ (k : ℕ). entryOf k (fieldsOf e)) (eqb-true (kindOf e) 5 q)
+
 -- the fields of a layout make an entry of that kind with those fields
 pub kind-again : (s : List ℕ) (place kind : ℕ) → unknown kind ≡ false → kindOf (entryOf kind (fieldsAt (layout kind) s place)) ≡ kind
 unfolding entryOf
@@ -91,28 +96,3 @@ bytes-size (Settle _) = refl
 -- what is put from the first place on
 pub put-front : (b o : List ℕ) (n : ℕ) → length b ≡ n → n ≤ length o → sets o 0 b ≡ b ++ drop n o
 put-front b o n e h = sets-eq b o 0 (omega arith) ∙ rw (zero-add, e)
-
--- an open entry is told by its kind
-pub kind-open : (e : Entry) → eqb (kindOf e) 1 ≡ isOpen e
-kind-open (Open k) = refl
-kind-open (Energy k i side quantity price) = refl
-kind-open (Amount k i side tier cents) = refl
-kind-open (Notice k) = refl
-kind-open (Receipt k i cents) = refl
-kind-open (Settle k) = refl
-
-pub kind-energy : (e : Entry) → kindOf e ≡ 2 → isAmount e ≡ true
-kind-energy (Open p) q = absurd (omega arith)
-kind-energy (Energy p i side quantity price) q = refl
-kind-energy (Amount p i side tier cents) q = refl
-kind-energy (Notice p) q = absurd (omega arith)
-kind-energy (Receipt p i cents) q = absurd (omega arith)
-kind-energy (Settle p) q = absurd (omega arith)
-
-pub kind-amount : (e : Entry) → (kindOf e ≡ 2 → ⊥) → eqb (kindOf e) 3 ≡ isAmount e
-kind-amount (Open p) q = refl
-kind-amount (Energy p i side quantity price) q = absurd (q refl)
-kind-amount (Amount p i side tier cents) q = refl
-kind-amount (Notice p) q = refl
-kind-amount (Receipt p i cents) q = refl
-kind-amount (Settle p) q = refl

@@ -5,37 +5,39 @@ use mathlib.Core.Bool.{Bool, true, false, true≢false, false≢true}
 use mathlib.Core.List.{List}
 use mathlib.Core.Logic.{⊎-elim}
 use native.Mathlib.Omega.{arith}
-use Rattle.exact.specs.Energy.{energyCents}
-use Rattle.settlement.specs.Month.{tiers}
+use Rattle.exact.specs.Rows.{places}
 use Rattle.book.specs.Checks.{refusal}
 use Rattle.book.specs.Allowed.{allowed}
-use Rattle.book.specs.Kinds.{isOpen, isReceipt}
-use Rattle.book.specs.Periods.{Change, changed}
-use Rattle.book.specs.Rules.{periodChecks}
+use Rattle.book.specs.Kinds.{isOpen, isAmount, isReceipt, addition}
+use Rattle.book.specs.Periods.{zeros, Change, withAddition, changed}
+use Rattle.book.specs.Rules.{amountChecks, periodChecks}
 use Rattle.book.specs.Valid.{Sound}
 use Rattle.book.specs.Log.{Account}
 use Rattle.book.specs.Demand3.{TiersInOrder}
 use Rattle.book.specs.declared.entries.Entry.{Entry}
 use Rattle.book.specs.declared.entries.Entry.the-variants.{Open, Energy, Amount, Notice, Receipt, Settle}
 use Rattle.book.specs.declared.Period.{Period}
-use Rattle.book.proofs.Passing.{amount-placed, energy-placed, amount-passes, notice-passes, receipt-passes, settle-passes}
+use Rattle.book.proofs.Passing.{amount-passes, notice-passes, receipt-passes, settle-passes}
+use Rattle.book.proofs.AdditionLaws.{amount-other, amount-within}
 use Rattle.book.proofs.EntryChanges.{changed-receipt, changed-late}
 use Rattle.book.proofs.Tracking.{Staged, Tracks, with-entry, Paid, track-notice, track-amount, track-receipt}
 use Rattle.book.proofs.LateTracking.{track-settle, track-late, late-in-order}
 
 module _ (n : ℕ) (p : Period) (s : Sound n p) (a : Account) (t : Tracks n p a) (words : List ℕ) where
+  adds : (e : Entry) → isAmount e ≡ true → allowed e ≡ true → refusal (amountChecks n p (addition e)) ≡ 0
+      → Paid n (zeros places) words → Tracks n (withAddition p (addition e)) (with-entry e words a)
+  adds e q l z w =
+      let d = addition e in
+      let o = amount-other e q in
+      track-amount n p s a t words w e (d .participant) (d .cents) (d .side) (d .tier) (amount-within e q l .placed) (amount-passes n p d z)
+      (record { by = λ j. rw q; to = λ u j. rw q; no-receipt = λ j. rw (o .not-receipt); no-settle = o .not-settle })
+
   pub entry-tracks : (e : Entry) (barred : Bool) → isOpen e ≡ false → allowed e ≡ true → refusal (periodChecks n barred e p) ≡ 0
       → Paid n (changed n e p .pays) words → Tracks n (changed n e p .period) (with-entry e words a)
   unfolding changed
   entry-tracks (Open k) barred o l e w = absurd (true≢false o)
-  entry-tracks (Energy k i side quantity price) barred o l e w =
-      track-amount n p s a t words w (Energy k i side quantity price) i (energyCents quantity price) side tiers
-      (energy-placed k i side quantity price l) (amount-passes n p i side (energyCents quantity price) e)
-      (record { by = λ j. refl; to = λ u j. refl; no-receipt = λ j. refl; no-settle = refl })
-  entry-tracks (Amount k i side tier cents) barred o l e w =
-      track-amount n p s a t words w (Amount k i side tier cents) i cents side tier
-      (amount-placed k i side tier cents l) (amount-passes n p i side cents e)
-      (record { by = λ j. refl; to = λ u j. refl; no-receipt = λ j. refl; no-settle = refl })
+  entry-tracks (Energy k i side quantity price) barred o l e w = adds (Energy k i side quantity price) refl l e w
+  entry-tracks (Amount k i side tier cents) barred o l e w = adds (Amount k i side tier cents) refl l e w
   entry-tracks (Notice k) barred o l e w = track-notice n p s a t words w k (notice-passes n p e .stage)
   entry-tracks (Receipt k i cents) barred o l e w =
       let f = receipt-passes n p barred i cents e in

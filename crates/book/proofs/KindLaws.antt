@@ -1,12 +1,14 @@
 -- The last arm of a match on an entry: it is none of the kinds that have an arm of their own.
-use Prim.Native.Nat.{ℕ, zero, suc}
+use Prim.Native.Nat.{ℕ, zero, suc, _-_}
 use mathlib.Core.Path.{_≡_, refl, subst}
-use mathlib.Core.Bool.{cond}
+use mathlib.Core.Bool.{false, cond, not}
 use mathlib.Core.List.{List, [], _∷_, _++_}
 use native.Mathlib.Omega.{arith}
-use lib.Dec.{eqb}
+use borrow.Author.Tests.{ne-eqb}
+use lib.Dec.{T, eqb}
 use lib.ListN.{length}
-use types.Run.{OneOf}
+use mir.Val.{hasKey}
+use types.Run.{OneOf, miss}
 use denote.Enum.Declared.{tagOf}
 use Rattle.book.specs.Entries.{bodyLengths, kindOf}
 use Rattle.book.specs.declared.entries.Entry.{Entry}
@@ -22,7 +24,7 @@ tag-kind (Notice _) = refl
 tag-kind (Receipt _ _ _) = refl
 tag-kind (Settle _) = refl
 
--- the tags of all kinds, without one, without two
+-- the tags of all kinds but these
 abbrev below : ℕ → List ℕ
 below zero = []
 below (suc n) = below n ++ (n ∷ [])
@@ -31,14 +33,12 @@ abbrev without : ℕ → List ℕ → List ℕ
 without k [] = []
 without k (x ∷ l) = cond (eqb x k) (without k l) (x ∷ without k l)
 
-abbrev pub others : ℕ → List ℕ
-others k = without k (below 6)
+abbrev pub others : List ℕ → List ℕ
+others [] = below (length bodyLengths - 1)
+others (k ∷ ks) = without k (others ks)
 
-abbrev pub others-2 : ℕ → ℕ → List ℕ
-others-2 j k = without j (without k (below 6))
-
--- an entry with one of these tags is not of a kind whose tag is none of them
-pub none-of : (ks : List ℕ) (k : ℕ) (e : Entry) → (OneOf ks k → ⊥) → OneOf ks (tagOf the-type e) → kindOf e ≡ suc k → ⊥
-none-of ks k e none one q =
+-- an entry in the last arm is of none of the kinds that have an arm of their own
+pub not-kind : (ks : List ℕ) (k : ℕ) (e : Entry) → T (not (hasKey (others ks) k)) → OneOf (others ks) (tagOf the-type e) → eqb (kindOf e) (suc k) ≡ false
+not-kind ks k e none one = ne-eqb (kindOf e) (suc k) (λ q.
     let same : tagOf the-type e ≡ k = omega (arith, tag-kind e, q) in
-    none (subst (OneOf ks) same one)
+    miss (others ks) k none (subst (OneOf (others ks)) same one))

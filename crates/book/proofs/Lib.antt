@@ -19,6 +19,7 @@ mod LogLaws
 mod Tracking
 mod Reckoned
 mod KindLaws
+mod AdditionLaws
 mod LateTracking
 mod EntryTracks
 mod Invariant

@@ -6,18 +6,20 @@ use mathlib.Core.List.{List}
 use native.Mathlib.Omega.{arith}
 use lib.ListN.{length, getD}
 use Rattle.exact.specs.Rows.{at, sum}
+use Rattle.exact.proofs.Cases.{cases}
 use Rattle.book.specs.Checks.{refusal}
 use Rattle.book.specs.Allowed.{allowed, centsLimit}
-use Rattle.book.specs.Kinds.{periodOf, isOpen, receiptCents}
+use Rattle.book.specs.Kinds.{field, periodOf, isOpen, isReceipt, receiptCents}
 use Rattle.book.specs.Periods.{leaves, holds, changed}
 use Rattle.book.specs.State.{view, heldIn, find, noPeriod, periodAt, replaced, removed}
 use Rattle.book.specs.Rules.{Input, Entered, periodChecks, barring, checks}
 use Rattle.book.specs.Step.{moved, accepted}
 use Rattle.book.specs.Valid.{Valid, Sound}
 use Rattle.book.specs.declared.entries.Entry.{Entry}
-use Rattle.book.specs.declared.entries.Entry.the-variants.{Open, Energy, Amount, Notice, Receipt, Settle}
+use Rattle.book.specs.declared.entries.Entry.the-variants.{Receipt}
 use Rattle.book.specs.declared.Period.{Period}
 use Rattle.book.specs.declared.Book.{Book}
+use Rattle.book.proofs.EntryLaws.{is-receipt}
 use Rattle.book.proofs.Passing.{allowed-inside}
 use Rattle.book.proofs.ChangeLaws.{Changes}
 use Rattle.book.proofs.StepLaws.{Names, accepted-names}
@@ -28,12 +30,9 @@ use Rattle.book.proofs.Replies.{to-period, held-replaced, held-removed}
 
 -- a receipt's cents are within their limit
 pub cents-within : (e : Entry) → allowed e ≡ true → receiptCents e ≤ centsLimit
-cents-within (Open k) a = omega arith
-cents-within (Energy k i side quantity price) a = omega arith
-cents-within (Amount k i side tier cents) a = omega arith
-cents-within (Notice k) a = omega arith
-cents-within (Receipt k i cents) a = allowed-inside (Receipt k i cents) a .1
-cents-within (Settle k) a = omega arith
+cents-within e a = cases (λ (c : ℕ). c ≤ centsLimit) (isReceipt e)
+    (λ q. allowed-inside (Receipt (field e 0) (field e 1) (field e 2)) (subst (λ (e : Entry). allowed e ≡ true) (is-receipt e q) a) .1)
+    (λ _. omega arith)
 
 -- the entry names the period at place j, which is in use
 pub record Found (b : Book) (e : Entry) (w : List ℕ) (j : ℕ) : Type 0 where

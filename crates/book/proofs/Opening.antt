@@ -1,14 +1,16 @@
 -- An open entry keeps the invariant.
 use Prim.Native.Nat.{ℕ, _+_, _-_, _*_, _≤_, _<_}
 use mathlib.Core.Path.{_≡_, refl, sym, ap, subst, _∙_}
-use mathlib.Core.Bool.{true, false, true≢false, false≢true}
+use mathlib.Core.Bool.{true, false, true≢false}
 use mathlib.Core.List.{List, [], _∷_, _++_}
 use mathlib.Core.Logic.{_⊎_, inl, inr, ⊎-elim}
 use native.Mathlib.Omega.{arith}
+use borrow.Author.Tests.{eqb-true}
 use Rattle.exact.specs.Rows.{places, at}
 use Rattle.exact.proofs.Cases.{eq-or-ne}
 use Rattle.exact.proofs.RowLaws.{sum-cong}
 use Rattle.settlement.specs.Month.{tiers, tierAt}
+use Rattle.book.specs.Entries.{kindOf}
 use Rattle.book.specs.Kinds.{periodOf, isOpen, isReceipt, isSettle, receiptCents}
 use Rattle.book.specs.Periods.{zeros, fresh}
 use Rattle.book.specs.State.{heldIn, numbers}
@@ -17,7 +19,6 @@ use Rattle.book.specs.Valid.{All}
 use Rattle.book.specs.Log.{Accepted, Log, Account, nothing, entered, account, addsBy, addsTo, receivedFrom, moneyReceived, moneyPaid, received}
 use Rattle.book.specs.Demand3.{Has}
 use Rattle.book.specs.declared.entries.Entry.{Entry}
-use Rattle.book.specs.declared.entries.Entry.the-variants.{Open, Energy, Amount, Notice, Receipt, Settle}
 use Rattle.book.specs.declared.Period.{Period}
 use Rattle.book.proofs.CellLaws.{zeros-at, zeros-tier}
 use Rattle.book.proofs.ChangeLaws.{no-pays}
@@ -37,12 +38,9 @@ record AddsNothing (e : Entry) : Type 0 where
   pub no-settle : isSettle e ≡ false
 
 open-adds-nothing : (e : Entry) → isOpen e ≡ true → AddsNothing e
-open-adds-nothing (Open k) o = record { by = λ i. refl; to = λ t i. refl; none-received = λ i. refl; no-cents = refl; no-receipt = refl; no-settle = refl }
-open-adds-nothing (Energy k i side quantity price) o = absurd (false≢true o)
-open-adds-nothing (Amount k i side tier cents) o = absurd (false≢true o)
-open-adds-nothing (Notice k) o = absurd (false≢true o)
-open-adds-nothing (Receipt k i cents) o = absurd (false≢true o)
-open-adds-nothing (Settle k) o = absurd (false≢true o)
+open-adds-nothing e o =
+    let k = eqb-true (kindOf e) 1 o in
+    record { by = λ i. rw k; to = λ t i. rw k; none-received = λ i. rw k; no-cents = rw k; no-receipt = rw k; no-settle = rw k }
 
 module _ (n highest : ℕ) (ps : List Period) (log : Log) (inv : Inv n highest ps log) (x : Accepted) (o : isOpen (x .entry) ≡ true)
     (above : highest < periodOf (x .entry)) (w : Paid n (zeros places) (x .words)) where

@@ -18,6 +18,7 @@ use Rattle.book.specs.declared.Stage.{Stage}
 use Rattle.book.specs.declared.Stage.the-variants.{Opened, Noticed, Settled}
 use Rattle.book.specs.declared.entries.Entry.{Entry}
 use Rattle.book.specs.declared.entries.Entry.the-variants.{Open, Energy, Amount, Notice, Receipt, Settle}
+use Rattle.book.specs.declared.kinds.Addition.{Addition}
 use Rattle.book.specs.declared.Period.{Period}
 use Rattle.book.proofs.CheckLaws.{all-pass, none-false}
 
@@ -90,13 +91,13 @@ module _ (n : ℕ) (p : Period) where
     pub stage : p .stage ≡ Opened
     pub fits : sideTotal n p side + cents ≤ sideLimit
 
-  pub amount-passes : (i side cents : ℕ) → refusal (amountChecks n p i side cents) ≡ 0 → PassesAmount i side cents
-  amount-passes i side cents e =
-      let f = all-pass (amountChecks n p i side cents) refl e in
+  pub amount-passes : (a : Addition) → refusal (amountChecks n p a) ≡ 0 → PassesAmount (a .participant) (a .side) (a .cents)
+  amount-passes a e =
+      let f = all-pass (amountChecks n p a) refl e in
       record {
-        member = leb-false n i (f .0);
+        member = leb-false n (a .participant) (f .0);
         stage = opened-stage (p .stage) (f .1 .0);
-        fits = ltb-false sideLimit (sideTotal n p side + cents) (f .1 .1 .0);
+        fits = ltb-false sideLimit (sideTotal n p (a .side) + a .cents) (f .1 .1 .0);
       }
 
   pub record PassesNotice : Type 0 where

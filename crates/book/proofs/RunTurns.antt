@@ -1,5 +1,5 @@
 -- A turn of the block run: an entry that names a period in the book, and a run of energy and amounts.
-use Prim.Native.Nat.{ℕ, zero, suc, _+_, _-_, _≤_}
+use Prim.Native.Nat.{ℕ, zero, suc, _+_, _-_, _≤_, _<_}
 use mathlib.Core.Path.{_≡_, refl, sym, ap, subst, subst₂, _∙_}
 use mathlib.Core.Bool.{Bool, true, false}
 use mathlib.Core.Logic.{⊎-elim}
@@ -9,30 +9,58 @@ use borrow.Author.Tests.{eq-eqb, ne-eqb}
 use lib.Dec.{eqb}
 use lib.ListN.{length, getD}
 use lib.Seq.{sets}
-use Rattle.exact.specs.Rows.{places}
+use Rattle.exact.specs.Rows.{places, at, sum}
 use Rattle.exact.proofs.Cases.{cases, eq-or-ne}
 use Rattle.book.specs.Checks.{refusal}
-use Rattle.book.specs.Kinds.{periodOf}
-use Rattle.book.specs.Periods.{zeros, changed}
+use Rattle.book.specs.Kinds.{periodOf, isOpen}
+use Rattle.book.specs.Periods.{zeros, fresh, changed}
 use Rattle.book.specs.Reading.{ReadOutcome, reading}
-use Rattle.book.specs.State.{view, noPeriod}
+use Rattle.book.specs.State.{view, pack, mostPeriods, noPeriod, added}
 use Rattle.book.specs.Rules.{Input, barring, periodChecks, checks}
-use Rattle.book.specs.Step.{reply}
+use Rattle.book.specs.Step.{payoutWords, opened, reply}
 use Rattle.book.specs.Valid.{Valid}
 use Rattle.book.specs.Acting.{Effect, effect}
 use Rattle.book.specs.Running.{paidBy, run}
-use Rattle.book.specs.Postings.{NamedAt, Unnamed, AmountAt, Postings, posts, postings, cleared}
+use Rattle.book.specs.Postings.{NamedAt, Takes, ReadAt, Decides, Postings, posts, postings, cleared}
+use Rattle.book.specs.declared.answers.Answer.{Answer}
 use Rattle.book.specs.declared.entries.Entry.{Entry}
+use Rattle.book.specs.declared.runs.Way.{Way}
+use Rattle.book.specs.declared.runs.Way.the-variants as way
 use Rattle.book.specs.declared.Period.{Period}
 use Rattle.book.specs.declared.Book.{Book}
 use Rattle.book.proofs.ListLaws.{find-number}
 use Rattle.book.proofs.Packing.{count-is, read-at, put}
-use Rattle.book.proofs.StepLaws.{Opens, Names, enters, by-kind, step-accepted, step-refused, accepted-opens}
+use Rattle.book.proofs.StepLaws.{Opens, enters, opens, accepted-opens}
 use Rattle.book.proofs.ChangeLaws.{no-pays}
+use Rattle.book.proofs.Replies.{reply-refused, accepts}
 use Rattle.book.proofs.Named.{Found}
 use Rattle.book.proofs.Effects.{words-sum, reply-parts, reply-paid}
 use Rattle.book.proofs.RunLaws.{read-or-none, Turn, Standing, goes-on}
 use Rattle.book.proofs.PostingLaws.{Taken, postings-run, postings-valid}
+
+-- the way of an entry that was read
+pub decides : (b : Book) (bytes : List ℕ) (place room : ℕ) (e : Entry) (next : ℕ) → reading bytes place ≡ record { answer = 0; place = next; entry = e ∷ [] }
+    → (w : Way) → Takes b e next room w → Decides b bytes place room w
+decides b bytes place room e next q (way.Amounts j) t = record { entry = e; next = next; read = q; takes = t }
+decides b bytes place room e next q (way.Named j entry after) t = record { entry = e; next = next; read = q; takes = t }
+decides b bytes place room e next q (way.Opens k after) t = record { entry = e; next = next; read = q; takes = t }
+decides b bytes place room e next q (way.Refused answer after) t = record { entry = e; next = next; read = q; takes = t }
+decides b bytes place room e next q way.Unread t = absurd t
+
+-- the entry that was read, and the place after it, by its way
+module _ {b : Book} {bytes : List ℕ} {place room : ℕ} where
+  pub named-read : {j : ℕ} {e : Entry} {next : ℕ} → ReadAt b bytes place room (way.Named j e next)
+      → (reading bytes place ≡ record { answer = 0; place = next; entry = e ∷ [] }) × NamedAt b e room j
+  named-read {j} a =
+      let t = a .takes in
+      (a .read ∙ (λ z. record { answer = 0; place = sym (t .1) z; entry = sym (t .0) z ∷ [] }), subst (λ (e : Entry). NamedAt b e room j) (sym (t .0)) (t .2))
+
+  pub opens-read : {k next : ℕ} (a : ReadAt b bytes place room (way.Opens k next)) → reading bytes place ≡ record { answer = 0; place = next; entry = a .entry ∷ [] }
+  opens-read a = a .read ∙ (λ z. record { answer = 0; place = sym (a .takes .1) z; entry = a .entry ∷ [] })
+
+  pub refused-read : {answer : Answer} {next : ℕ} (a : ReadAt b bytes place room (way.Refused answer next))
+      → reading bytes place ≡ record { answer = 0; place = next; entry = a .entry ∷ [] }
+  refused-read a = a .read ∙ (λ z. record { answer = 0; place = sym (a .takes .0) z; entry = a .entry ∷ [] })
 
 -- the number of the period that an entry names
 named-number : {b : Book} {e : Entry} {room j : ℕ} → Valid b → NamedAt b e room j → getD (b .periods) j noPeriod .number ≡ periodOf e
@@ -63,20 +91,40 @@ module _ {b : Book} {e : Entry} {words : List ℕ} {j : ℕ} (f : Found b e word
       let z = reply-paid f x q in
       (t, z, p .1, l ∙ (λ i. sets lines wrote (p .0 i ∷ z i ∷ p .2 i ∷ [])))
 
--- an entry that names no period of the book pays nothing
-pub unnamed-unpaid : (b : Book) (e : Entry) (words : List ℕ) → Unnamed b e (length words) → 0 ≡ paidBy (b .n) (reply b (record { entry = e; words = words }))
-unfolding paidBy reply
-unnamed-unpaid b e words h =
-    let x : Input = record { entry = e; words = words } in
-    ⊎-elim
-    (λ z.
-        let i = enters (view b) x z in
-        ⊎-elim
-        (λ (o : Opens (view b) x). rw (step-accepted (view b) x z ∙ accepted-opens (view b) x o) (omega (arith, words-sum (b .n) (zeros places) words, no-pays (b .n))))
-        (λ (o : Names (view b) x). absurd (omega (arith, o .found, h words refl (i .0) (o .not-open))))
-        (by-kind (view b) x (i .1)))
-    (λ z. rw (step-refused (view b) x z, ne-eqb (refusal (checks (view b) x)) 0 z) refl)
-    (eq-or-ne (refusal (checks (view b) x)) 0)
+-- an entry that the book answers from its record
+module _ {b : Book} (v : Valid b) (e : Entry) (words lines : List ℕ) (wrote : ℕ) where
+  abbrev entered : Input
+  entered = record { entry = e; words = words }
+
+  -- a refusal: nothing changes, and nothing is paid
+  pub refused-turn : (answer : ℕ) → refusal (checks (view b) (record { entry = e; words = words })) ≡ answer → (answer ≡ 0 → ⊥)
+      → (lines′ : List ℕ) → lines′ ≡ sets lines wrote (answer ∷ 0 ∷ b .held ∷ []) → Turn b e words lines wrote b 0 words lines′
+  unfolding paidBy
+  refused-turn answer q some lines′ l =
+      let r = ap (λ (k : ℕ). record { answer = k; rounds = 0; book = b; words = words }) (sym q) ∙ reply-refused v e words (λ z. some (sym q ∙ z)) in
+      rw (← r, ne-eqb answer 0 some) (refl, refl, refl, l)
+
+  module _ (o : isOpen e ≡ true) (z : refusal (checks (view b) (record { entry = e; words = words })) ≡ 0) where
+    pub opening : Opens (view b) (record { entry = e; words = words })
+    opening = opens (view b) entered o (rw o at (enters (view b) entered z .1))
+
+    -- an opening: one more period, and nothing is paid
+    pub opens-turn : (k : ℕ) → periodOf e ≡ k → (b′ : Book) → b′ ≡ pack (added (view b) (fresh k)) → (words′ : List ℕ) → words′ ≡ payoutWords (b .n) (zeros places) words
+        → (lines′ : List ℕ) → lines′ ≡ sets lines wrote (0 ∷ 0 ∷ b′ .held ∷ []) → Turn b e words lines wrote b′ 0 words′ lines′
+    unfolding paidBy
+    opens-turn k q b′ x words′ y lines′ l =
+        let r = accepts v e words (opened (view b) (periodOf e) words) (record { answer = 0; rounds = 0; book = b′; words = words′ }) z
+        (accepted-opens (view b) entered opening) (λ i. record { answer = 0; rounds = 0; book = (x ∙ ap (λ (k : ℕ). pack (added (view b) (fresh k))) (sym q)) i; words = y i }) in
+        let paid : 0 ≡ sum (at words′) (b .n) = omega (arith, ap (λ (w : List ℕ). sum (at w) (b .n)) y, words-sum (b .n) (zeros places) words, no-pays (b .n)) in
+        rw (← r, ← paid) (refl, refl, refl, l)
+
+-- an opening that is accepted has its payout words and a place
+pub opens-fits : {b : Book} {bytes : List ℕ} {place k next : ℕ} → Valid b → (words : List ℕ) (a : ReadAt b bytes place (length words) (way.Opens k next))
+    → (b .n ≤ length words) × (length (view b .periods) < mostPeriods)
+opens-fits {b} v words a =
+    let x : Input = record { entry = a .entry; words = words } in
+    let z = a .takes .3 words refl in
+    (enters (view b) x z .0 .enough, opening v (a .entry) words [] 0 (a .takes .2) z .room)
 
 -- the lines of postings take no more room than there is
 module _ (bytes : List ℕ) (n held : ℕ) where
@@ -104,7 +152,7 @@ module _ (bytes : List ℕ) (n held : ℕ) where
   some-line (suc (suc (suc room))) p place accepted e h q y = rw (q, y) (omega arith)
 
 module _ (bytes : List ℕ) (b₀ : Book) (from : ℕ) (words₀ before : List ℕ) {b : Book} {place : ℕ} {words lines : List ℕ} {wrote : ℕ}
-    (s : Standing bytes b₀ from words₀ before b place words lines wrote) {j : ℕ} (a : AmountAt b bytes place (length words) j) where
+    (s : Standing bytes b₀ from words₀ before b place words lines wrote) {j : ℕ} (a : ReadAt b bytes place (length words) (way.Amounts j)) where
   abbrev x : Postings
   x = postings bytes (b .n) (b .held) (length lines - wrote) (getD (b .periods) j noPeriod) place false
 
@@ -114,7 +162,7 @@ module _ (bytes : List ℕ) (b₀ : Book) (from : ℕ) (words₀ before : List �
       (period ≡ x .period) × (next ≡ x .place) × (accepted ≡ x .accepted) × (wrote′ ≡ wrote + length (x .lines)) × (lines′ ≡ sets lines wrote (x .lines)))
       → words′ ≡ cleared accepted (b .n) words → Standing bytes b₀ from words₀ before (put b j period (b .held)) next words′ lines′ wrote′
   amounts-on period next accepted wrote′ lines′ words′ q w =
-      let t = named-taken words (s .valid) (a .named) in
+      let t = named-taken words (s .valid) (a .takes .0) in
       let e = w ∙ ap (λ (c : Bool). cleared c (b .n) words) (q .2) in
       subst (λ (p : Period). Standing bytes b₀ from words₀ before (put b j p (b .held)) next words′ lines′ wrote′) (sym (q .0))
       (subst (λ (k : ℕ). Standing bytes b₀ from words₀ before (put b j (x .period) (b .held)) k words′ lines′ wrote′) (sym (q .1))
@@ -128,4 +176,4 @@ module _ (bytes : List ℕ) (b₀ : Book) (from : ℕ) (words₀ before : List �
   pub amounts-some : 3 ≤ length lines - wrote → 3 ≤ length (postings bytes (b .n) (b .held) (length lines - wrote) (getD (b .periods) j noPeriod) place false .lines)
   amounts-some h = some-line bytes (b .n) (b .held) (length lines - wrote) (getD (b .periods) j noPeriod) place false (a .entry) h
       (ap (λ (o : ReadOutcome). o .entry) (a .read))
-      (rw (eq-eqb (periodOf (a .entry)) (getD (b .periods) j noPeriod .number) (sym (named-number (s .valid) (a .named)))) (a .amount))
+      (rw (eq-eqb (periodOf (a .entry)) (getD (b .periods) j noPeriod .number) (sym (named-number (s .valid) (a .takes .0)))) (a .takes .1))

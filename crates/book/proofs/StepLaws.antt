@@ -43,21 +43,21 @@ module _ (s : State) (x : Input) where
         c .1,
       )
 
+  pub opens : isOpen (x .entry) ≡ true → refusal (openChecks s (periodOf (x .entry))) ≡ 0 → Opens
+  opens q e =
+      let f = all-pass (openChecks s (periodOf (x .entry))) refl e in
+      record { is-open = q; above = leb-false (periodOf (x .entry)) (s .highest) (f .0); room = leb-false mostPeriods (length (s .periods)) (f .1 .0) }
+
   pub by-kind : refusal (kindChecks s (x .entry)) ≡ 0 → Opens ⊎ Names
   by-kind = go (isOpen (x .entry)) refl
     where
-      opening : isOpen (x .entry) ≡ true → refusal (openChecks s (periodOf (x .entry))) ≡ 0 → Opens
-      opening q e =
-          let f = all-pass (openChecks s (periodOf (x .entry))) refl e in
-          record { is-open = q; above = leb-false (periodOf (x .entry)) (s .highest) (f .0); room = leb-false mostPeriods (length (s .periods)) (f .1 .0) }
-
       naming : isOpen (x .entry) ≡ false → refusal (namedChecks s (x .entry)) ≡ 0 → Names
       naming q e =
           let f = passes (leb (length (s .periods)) (find (periodOf (x .entry)) (s .periods))) 7 (drop 1 (namedChecks s (x .entry))) e in
           record { not-open = q; found = leb-false (length (s .periods)) (find (periodOf (x .entry)) (s .periods)) (f .0); passed = f .1 }
 
       go : (t : Bool) → isOpen (x .entry) ≡ t → refusal (cond t (openChecks s (periodOf (x .entry))) (namedChecks s (x .entry))) ≡ 0 → Opens ⊎ Names
-      go true q e = inl (opening q e)
+      go true q e = inl (opens q e)
       go false q e = inr (naming q e)
 
   pub step-accepted : refusal (checks s x) ≡ 0 → step s x ≡ accepted s x

@@ -3,16 +3,12 @@ use Prim.Native.Nat.{ℕ, suc, _+_, _-_}
 use mathlib.Core.Bool.{Bool, true, false, cond}
 use mathlib.Core.List.{List, [], _∷_}
 use lib.Dec.{eqb}
-use lib.ListN.{getD}
 use Rattle.exact.specs.Rows.{at, sum}
-use Rattle.exact.specs.Energy.{energyCents}
-use Rattle.settlement.specs.Month.{Month, tiers}
+use Rattle.settlement.specs.Month.{Month}
 use Rattle.settlement.specs.Notice as notice
 use Rattle.settlement.specs.Claims as step1
-use Rattle.book.specs.Entries.{fieldsOf}
-use Rattle.book.specs.Kinds.{names, isOpen, isSettle, isReceipt, receiptCents}
+use Rattle.book.specs.Kinds.{names, isOpen, isAmount, isReceipt, isSettle, addition, payerOf, receiptCents}
 use Rattle.book.specs.declared.entries.Entry.{Entry}
-use Rattle.book.specs.declared.entries.Entry.the-variants.{Open, Energy, Amount, Notice, Receipt, Settle}
 
 -- an accepted entry, and the payout words as it left them
 pub record Accepted : Type 0 where
@@ -29,25 +25,15 @@ only j i c = cond (eqb j i) c 0
 
 -- what an entry adds to B_i
 abbrev pub addsBy : ℕ → Entry → ℕ
-addsBy i (Open k) = 0
-addsBy i (Energy k j side quantity price) = cond (eqb side 0) (only j i (energyCents quantity price)) 0
-addsBy i (Amount k j side tier cents) = cond (eqb side 0) (only j i cents) 0
-addsBy i (Notice k) = 0
-addsBy i (Receipt k j cents) = 0
-addsBy i (Settle k) = 0
+addsBy i e = cond (isAmount e) (cond (eqb (addition e .side) 0) (only (addition e .participant) i (addition e .cents)) 0) 0
 
--- what an entry adds to O_i,t, tiers counted from 0; energy on side 1 goes to tier 5
+-- what an entry adds to O_i,t, tiers counted from 0
 abbrev pub addsTo : ℕ → ℕ → Entry → ℕ
-addsTo t i (Open k) = 0
-addsTo t i (Energy k j side quantity price) = cond (eqb side 0) 0 (only tiers (suc t) (only j i (energyCents quantity price)))
-addsTo t i (Amount k j side tier cents) = cond (eqb side 0) 0 (only tier (suc t) (only j i cents))
-addsTo t i (Notice k) = 0
-addsTo t i (Receipt k j cents) = 0
-addsTo t i (Settle k) = 0
+addsTo t i e = cond (isAmount e) (cond (eqb (addition e .side) 0) 0 (only (addition e .tier) (suc t) (only (addition e .participant) i (addition e .cents)))) 0
 
 -- the cents of a receipt from i
 abbrev pub receivedFrom : ℕ → Entry → ℕ
-receivedFrom i e = cond (isReceipt e) (only (getD (fieldsOf e) 1 0) i (receiptCents e)) 0
+receivedFrom i e = cond (isReceipt e) (only (payerOf e) i (receiptCents e)) 0
 
 abbrev pub count : Bool → ℕ
 count true = 1

@@ -4,18 +4,16 @@ use mathlib.Core.Path.{_≡_}
 use mathlib.Core.Bool.{true, Bool, false, cond, not}
 use mathlib.Core.List.{List, [], _∷_}
 use lib.Dec.{eqb, ltb, leb}
-use lib.ListN.{getD, length}
+use lib.ListN.{length}
 use Rattle.exact.specs.Rows.{at}
-use Rattle.exact.specs.Energy.{energyCents}
 use Rattle.settlement.specs.Month.{sideLimit}
 use Rattle.book.specs.Checks.{Check, on}
 use Rattle.book.specs.Allowed.{allowed}
-use Rattle.book.specs.Entries.{fieldsOf}
-use Rattle.book.specs.Kinds.{periodOf, isOpen, isReceipt}
+use Rattle.book.specs.Kinds.{periodOf, isOpen, isAmount, isNotice, isReceipt, isSettle, addition, payerOf, receiptCents}
 use Rattle.book.specs.Periods.{isOpened, isNoticed, isSettled, sideTotal}
 use Rattle.book.specs.State.{State, mostPeriods, find, periodAt, earlierArrears}
 use Rattle.book.specs.declared.entries.Entry.{Entry}
-use Rattle.book.specs.declared.entries.Entry.the-variants.{Open, Energy, Amount, Notice, Receipt, Settle}
+use Rattle.book.specs.declared.kinds.Addition.{Addition}
 use Rattle.book.specs.declared.Stage.{Stage}
 use Rattle.book.specs.declared.Period.{Period}
 
@@ -36,9 +34,9 @@ sideChecks n stage total i cents =
     ∷ on (ltb sideLimit (total + cents)) 11
     ∷ []
 
--- kinds 2 and 3, on the period that the entry names
-abbrev pub amountChecks : ℕ → Period → ℕ → ℕ → ℕ → List Check
-amountChecks n p i side cents = sideChecks n (p .stage) (sideTotal n p side) i cents
+-- kinds 2 and 3, by what they add to the period that the entry names
+abbrev pub amountChecks : ℕ → Period → Addition → List Check
+amountChecks n p a = sideChecks n (p .stage) (sideTotal n p (a .side)) (a .participant) (a .cents)
 
 -- kind 4: 9 unless before notice, 10
 abbrev pub noticeChecks : ℕ → Period → List Check
@@ -59,15 +57,14 @@ settleChecks p = on (not (isNoticed (p .stage))) 9 ∷ []
 
 -- whether an earlier settled period has arrears of the payer: 14
 abbrev pub barring : Entry → List Period → Bool
-barring e ps = cond (isReceipt e) (earlierArrears (getD (fieldsOf e) 1 0) (periodOf e) ps) false
+barring e ps = cond (isReceipt e) (earlierArrears (payerOf e) (periodOf e) ps) false
 
 abbrev pub periodChecks : ℕ → Bool → Entry → Period → List Check
-periodChecks n barred (Open k) p = []
-periodChecks n barred (Energy k i side quantity price) p = amountChecks n p i side (energyCents quantity price)
-periodChecks n barred (Amount k i side tier cents) p = amountChecks n p i side cents
-periodChecks n barred (Notice k) p = noticeChecks n p
-periodChecks n barred (Receipt k i cents) p = receiptChecks n barred p i cents
-periodChecks n barred (Settle k) p = settleChecks p
+periodChecks n barred e p =
+    cond (isAmount e) (amountChecks n p (addition e))
+    (cond (isNotice e) (noticeChecks n p)
+    (cond (isReceipt e) (receiptChecks n barred p (payerOf e) (receiptCents e))
+    (cond (isSettle e) (settleChecks p) [])))
 
 -- kind 1: 6, 7
 abbrev pub openChecks : State → ℕ → List Check

@@ -1,6 +1,5 @@
 // One entry and the period that it names: the answer, and on acceptance the change, the cents held and the payout words.
 ghost use mathlib.Core.Path.{_≡_};
-ghost use Rattle.book.specs.Kinds.{receiptCents};
 ghost use Rattle.book.specs.Acting.{Affects, effect, effectOf};
 use crate::Period;
 use crate::acting::change_period;
@@ -8,6 +7,7 @@ use crate::answering::period_answer;
 use crate::answers::Answer;
 use crate::answers::is_accepted;
 use crate::entries::Entry;
+use crate::kinds::receipt_cents;
 use exact::put_cells;
 use exact::total;
 
@@ -18,19 +18,6 @@ pub struct Effect {
     pub period: Period,
     pub held: u64,
     pub paid: u64,
-}
-
-fn receipt_cents(e: Entry) -> u64
-    ensures { λ r. ⌜ r ≡ receiptCents e ⌝ }
-{
-    match e {
-        Entry::Receipt {
-            period: _,
-            participant: _,
-            cents,
-        } => cents,
-        _ => 0,
-    }
 }
 
 // Applies an entry to the period that it names; `barred` is whether another period refuses a receipt (14), `held` what

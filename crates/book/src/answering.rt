@@ -1,4 +1,4 @@
-// What an entry is answered by the period that it names.
+// What an entry is answered by the period that it names, and an opening by the book.
 ghost use mathlib.Core.Path.{_≡_};
 ghost use mathlib.Core.Bool.{true};
 ghost use Prim.Native.Nat.{_≤_, _<_};
@@ -6,17 +6,21 @@ ghost use Rattle.exact.specs.Rows.{places};
 ghost use Rattle.settlement.specs.Month.{sideLimit};
 ghost use Rattle.book.specs.Checks.{refusal};
 ghost use Rattle.book.specs.Allowed.{allowed};
-ghost use Rattle.book.specs.Rules.{receivable, sideChecks, noticeChecks, receiptChecks, settleChecks, periodChecks};
-ghost use Rattle.book.specs.Valid.{Sound};
+ghost use Rattle.book.specs.State.{view};
+ghost use Rattle.book.specs.Rules.{receivable, sideChecks, openChecks, noticeChecks, receiptChecks, settleChecks, periodChecks};
+ghost use Rattle.book.specs.Valid.{Sound, Valid};
 ghost use Rattle.book.specs.Answers.{numberOf};
+use crate::Book;
+use crate::PERIODS;
 use crate::Period;
 use crate::Stage;
 use crate::answers::Answer;
 use crate::entries::Entry;
+use crate::kinds::addition_of;
+use crate::kinds::is_amount;
 use crate::periods::is_noticed;
 use crate::periods::is_opened;
 use crate::periods::is_settled;
-use exact::energy_cents;
 use exact::excess;
 
 const SIDE_LIMIT: u64 = 10_000_000_000_000;
@@ -34,6 +38,20 @@ pub fn amount_answer(stage: Stage, total: u64, n: usize, i: usize, cents: u64) -
     }
     if SIDE_LIMIT < total + cents {
         return Answer::PastBound;
+    }
+    Answer::Accepted
+}
+
+// 6, 7: an opening of period k.
+pub fn opening_answer(b: Book, k: u32) -> Answer
+    requires { ⌜ Valid b ⌝ }
+    ensures { λ r. ⌜ numberOf r ≡ refusal (openChecks (view b) k) ⌝ }
+{
+    if k <= b.highest {
+        return Answer::NotAbove;
+    }
+    if PERIODS <= b.count {
+        return Answer::Full;
     }
     Answer::Accepted
 }
@@ -102,31 +120,13 @@ pub fn period_answer(p: Period, n: usize, e: Entry, barred: bool) -> Answer
     requires { ⌜ Sound n p × (allowed e ≡ true) ⌝ }
     ensures { λ r. ⌜ numberOf r ≡ refusal (periodChecks n barred e p) ⌝ }
 {
+    if is_amount(e) {
+        let a = addition_of(e);
+        let side = a.side;
+        let stage = p.stage;
+        return amount_answer(stage, p.totals[side], n, a.participant, a.cents);
+    }
     match e {
-        Entry::Open { period: _ } => Answer::Accepted,
-        Entry::Energy {
-            period: _,
-            participant,
-            side,
-            quantity,
-            price,
-        } => {
-            let stage = p.stage;
-            let on = side as usize;
-            let cents = energy_cents(quantity as u64, price as u64);
-            amount_answer(stage, p.totals[on], n, participant as usize, cents)
-        }
-        Entry::Amount {
-            period: _,
-            participant,
-            side,
-            tier: _,
-            cents,
-        } => {
-            let stage = p.stage;
-            let on = side as usize;
-            amount_answer(stage, p.totals[on], n, participant as usize, cents)
-        }
         Entry::Notice { period: _ } => notice_answer(p, n),
         Entry::Receipt {
             period: _,
@@ -134,5 +134,6 @@ pub fn period_answer(p: Period, n: usize, e: Entry, barred: bool) -> Answer
             cents,
         } => receipt_answer(p, n, participant as usize, barred, cents),
         Entry::Settle { period: _ } => settle_answer(p),
+        _ => Answer::Accepted,
     }
 }

@@ -1,21 +1,26 @@
 // One entry of any kind.
 ghost use mathlib.Core.Path.{_≡_};
 ghost use mathlib.Core.Bool.{true, false};
+ghost use Prim.Native.Nat.{_≤_, _<_};
+ghost use lib.ListN.{length};
+ghost use Rattle.exact.specs.Rows.{places};
 ghost use Rattle.book.specs.Allowed.{allowed};
-ghost use Rattle.book.specs.Kinds.{periodOf, isOpen};
-ghost use Rattle.book.specs.State.{view};
+ghost use Rattle.book.specs.Kinds.{isOpen};
+ghost use Rattle.book.specs.Periods.{fresh, zeros};
+ghost use Rattle.book.specs.State.{view, pack, added, mostPeriods};
 ghost use Rattle.book.specs.Rules.{Entered, barring};
-ghost use Rattle.book.specs.Step.{reply};
+ghost use Rattle.book.specs.Step.{payoutWords, reply};
 ghost use Rattle.book.specs.Valid.{Valid};
 ghost use Rattle.book.specs.Applying.{replied};
 use crate::Book;
-use crate::PERIODS;
 use crate::affecting::apply_to_period;
 use crate::allowed::is_allowed;
+use crate::answering::opening_answer;
 use crate::answers::Answer;
+use crate::answers::is_accepted;
 use crate::entries::Entry;
-use crate::entries::OPEN;
-use crate::entries::kind_of;
+use crate::kinds::is_open;
+use crate::kinds::period_of;
 use crate::periods::fresh_period;
 use crate::periods::is_leaving;
 use crate::places::has_earlier_arrears;
@@ -30,41 +35,6 @@ pub struct Applied {
     pub answer: Answer,
     pub rounds: u64,
     pub book: Book,
-}
-
-pub fn period_of(e: Entry) -> u32
-    ensures { λ r. ⌜ r ≡ periodOf e ⌝ }
-{
-    match e {
-        Entry::Open { period } => period,
-        Entry::Energy {
-            period,
-            participant: _,
-            side: _,
-            quantity: _,
-            price: _,
-        } => period,
-        Entry::Amount {
-            period,
-            participant: _,
-            side: _,
-            tier: _,
-            cents: _,
-        } => period,
-        Entry::Notice { period } => period,
-        Entry::Receipt {
-            period,
-            participant: _,
-            cents: _,
-        } => period,
-        Entry::Settle { period } => period,
-    }
-}
-
-pub fn is_open(e: Entry) -> bool
-    ensures { λ r. ⌜ r ≡ isOpen e ⌝ }
-{
-    kind_of(e) == OPEN
 }
 
 // Whether another period refuses the entry (14).
@@ -92,23 +62,29 @@ fn refused(answer: Answer, book: Book) -> Applied
     }
 }
 
+// Opens period k, where 4 to 7 are passed, and pays nothing.
+pub fn with_opened(b: Book, k: u32, words: &mut [u64]) -> Book
+    requires { ⌜ Valid b × (b .n ≤ length (now words)) × (length (view b .periods) < mostPeriods) ⌝ }
+    ensures { λ r. ⌜ (r ≡ pack (added (view b) (fresh k))) × (now (words .exit) ≡ payoutWords (b .n) (zeros places) (now (words .entry))) ⌝ }
+{
+    put_cells(words, b.n, [0; PLACES]);
+    let p = fresh_period(k);
+    with_period(b, p)
+}
+
 // Opens a period; 4, 5 and 3 are passed.
 fn open_period(b: Book, e: Entry, words: &mut [u64]) -> Applied
     requires { ⌜ Valid b × Entered (view b) (record { entry = e; words = now words }) × (isOpen e ≡ true) ⌝ }
     ensures { λ r. ⌜ replied r (now (words .exit)) ≡ reply b (record { entry = e; words = now (words .entry) }) ⌝ }
 {
     let k = period_of(e);
-    if k <= b.highest {
-        return refused(Answer::NotAbove, b);
+    let answer = opening_answer(b, k);
+    if !is_accepted(answer) {
+        return refused(answer, b);
     }
-    if PERIODS <= b.count {
-        return refused(Answer::Full, b);
-    }
-    put_cells(words, b.n, [0; PLACES]);
-    let p = fresh_period(k);
-    let next = with_period(b, p);
+    let next = with_opened(b, k, words);
     Applied {
-        answer: Answer::Accepted,
+        answer: answer,
         rounds: 0,
         book: next,
     }

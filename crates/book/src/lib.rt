@@ -11,6 +11,7 @@ mod applying;
 mod entries;
 mod feed;
 mod fields;
+mod kinds;
 mod lines;
 mod periods;
 mod places;

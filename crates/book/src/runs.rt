@@ -1,29 +1,27 @@
 // A block of the feed: its entries read and applied one after the other, by a function that owns the book for them.
-ghost use Prim.Native.Nat.{_+_, _≤_, _<_};
+ghost use Prim.Native.Nat.{_≤_};
 ghost use mathlib.Core.Path.{_≡_};
 ghost use mathlib.Core.Bool.{true};
 ghost use lib.ListN.{length};
 ghost use lib.Seq.{sets};
 ghost use Rattle.exact.specs.Rows.{places};
 ghost use Rattle.book.specs.Allowed.{allowed};
-ghost use Rattle.book.specs.Kinds.{isAmount};
-ghost use Rattle.book.specs.Step.{reply};
 ghost use Rattle.book.specs.Valid.{Valid};
-ghost use Rattle.book.specs.Running.{paidBy, lineOf, run};
-ghost use Rattle.book.specs.Postings.{NamedAt, Unnamed, Decides, cleared};
+ghost use Rattle.book.specs.Running.{run};
+ghost use Rattle.book.specs.Postings.{Takes, Decides, cleared};
 use crate::Book;
-use crate::PERIODS;
 use crate::affecting::apply_to_period;
+use crate::answering::opening_answer;
+use crate::answers::Answer;
+use crate::answers::is_accepted;
 use crate::answers::number;
-use crate::applying::apply;
 use crate::applying::is_barred;
-use crate::applying::is_open;
-use crate::applying::period_of;
-use crate::entries::AMOUNT;
-use crate::entries::ENERGY;
+use crate::applying::with_opened;
 use crate::entries::Entry;
-use crate::entries::kind_of;
 use crate::feed::read_next;
+use crate::kinds::is_amount;
+use crate::kinds::is_open;
+use crate::kinds::period_of;
 use crate::lines::LINE;
 use crate::lines::put_line;
 use crate::periods::is_leaving;
@@ -42,57 +40,55 @@ pub struct Ran {
 }
 
 // The way of the entry at a place: energy or an amount of the period at place j of the book, another entry that names the
-// period there, any other entry, or none.
+// period there, an opening that is accepted, an entry that is refused by what the book shows without a look at a period (4 to
+// 8), or none.
 enum Way {
     Amounts { j: usize },
     Named { j: usize, entry: Entry, next: usize },
-    ByApply { entry: Entry, next: usize },
+    Opens { period: u32, next: usize },
+    Refused { answer: Answer, next: usize },
     Unread,
 }
 
-fn is_amount(e: Entry) -> bool
-    ensures { λ r. ⌜ r ≡ isAmount e ⌝ }
-{
-    let kind = kind_of(e);
-    if kind == ENERGY {
-        return true;
-    }
-    kind == AMOUNT
-}
-
-// The place of the period that an entry names, where 4, 5 and 8 are passed, or one behind those in use.
-fn named_place(b: Book, e: Entry, room: usize) -> usize
+// The way of an entry, with that many payout words lent.
+fn way_of(b: Book, e: Entry, next: usize, room: usize) -> Way
     requires { ⌜ Valid b × (allowed e ≡ true) ⌝ }
-    ensures { λ r. ⌜ (r < b .count → NamedAt b e room r) × (b .count ≤ r → Unnamed b e room) ⌝ }
+    ensures { λ r. ⌜ Takes b e next room r ⌝ }
 {
     if b.n == 0 {
-        return PERIODS;
+        let answer = Answer::NoParticipants;
+        return Way::Refused { answer, next };
     }
     if room < b.n {
-        return PERIODS;
+        let answer = Answer::FewWords;
+        return Way::Refused { answer, next };
     }
+    let k = period_of(e);
     if is_open(e) {
-        return PERIODS;
+        let answer = opening_answer(b, k);
+        if is_accepted(answer) {
+            return Way::Opens { period: k, next };
+        }
+        return Way::Refused { answer, next };
     }
-    place(b, period_of(e))
+    let j = place(b, k);
+    if b.count <= j {
+        let answer = Answer::NotInBook;
+        return Way::Refused { answer, next };
+    }
+    if is_amount(e) {
+        return Way::Amounts { j };
+    }
+    Way::Named { j, entry: e, next }
 }
 
-// The way of the entry at a place, with that many payout words lent.
+// The way of the entry at a place.
 fn way_at(b: Book, bytes: &[u8], place: usize, room: usize) -> Way
     requires { ⌜ Valid b ⌝ }
     ensures { λ r. ⌜ Decides b (now (bytes .entry)) place room r ⌝ }
 {
     match read_next(bytes, place) {
-        Reading::Found { entry, next } => {
-            let j = named_place(b, entry, room);
-            if b.count <= j {
-                return Way::ByApply { entry, next };
-            }
-            if is_amount(entry) {
-                return Way::Amounts { j };
-            }
-            Way::Named { j, entry, next }
-        }
+        Reading::Found { entry, next } => way_of(b, entry, next, room),
         Reading::Short => Way::Unread,
         Reading::Unknown => Way::Unread,
         Reading::Outside => Way::Unread,
@@ -107,19 +103,6 @@ fn clear(words: &mut [u64], n: usize, accepted: bool)
     if accepted {
         put_cells(words, n, [0; PLACES]);
     }
-}
-
-// Applies an entry that pays nothing, and puts its line.
-fn apply_listed(b: Book, e: Entry, words: &mut [u64], lines: &mut [u64], k: usize) -> Book
-    requires { ⌜ Valid b × (k + 3 ≤ length (now lines)) × Unnamed b e (length (now words)) ⌝ }
-    ensures { λ r. let x = reply b (record { entry = e; words = now (words .entry) }) in
-        ⌜ (r ≡ x .book) × (0 ≡ paidBy (b .n) x) × (now (words .exit) ≡ x .words) × (now (lines .exit) ≡ sets (now (lines .entry)) k (lineOf (b .n) x)) ⌝ }
-{
-    let r = apply(b, e, words);
-    let answer = r.answer;
-    let left = r.book;
-    put_line(lines, k, number(answer), 0, left.held);
-    left
 }
 
 // Reads and applies entries from a place on, up to one that cannot be read or has paid, while there is room for lines.
@@ -163,9 +146,15 @@ pub fn run(first: Book, bytes: &[u8], from: usize, words: &mut [u64], lines: &mu
                     break;
                 }
             }
-            Way::ByApply { entry, next } => {
-                let left = apply_listed(b, entry, words, lines, wrote);
+            Way::Opens { period, next } => {
+                let left = with_opened(b, period, words);
                 b = left;
+                put_line(lines, wrote, 0, 0, b.held);
+                place = next;
+                wrote += LINE;
+            }
+            Way::Refused { answer, next } => {
+                put_line(lines, wrote, number(answer), 0, b.held);
                 place = next;
                 wrote += LINE;
             }

@@ -1,10 +1,8 @@
 use mathlib.Core.Path.{_∙_}
+use mathlib.Core.List.{[], _∷_}
 use Rattle.book.proofs.Passing.{allowed-inside}
 use borrow.Author.Needs.{needs}
-use borrow.Author.Tests.{ne-eqb}
-use types.Run.{miss}
-use Rattle.book.specs.Entries.{kindOf}
-use Rattle.book.proofs.KindLaws.{others, none-of}
+use Rattle.book.proofs.KindLaws.{not-kind}
 use Rattle.book.proofs.applying.is_barred.Statement.{statement}
 use Rattle.book.proofs.applying.is_barred.Tie as tie
 
@@ -23,7 +21,7 @@ returns : tie.Need-returns
 returns c = c .has-earlier-arrears .ensures ∙ rw (c .before .before .e .given .1)
 
 returns-2 : tie.Need-returns-2
-returns-2 c = let e = c .before .args .e in rw (ne-eqb (kindOf e) 5 (none-of (others 4) 4 e (miss (others 4) 4 (tt {0})) (c .match .keys2)))
+returns-2 c = let e = c .before .args .e in rw (not-kind (4 ∷ []) 4 e (tt {0}) (c .match .keys2))
 
 pub is-barred-spec : {M : Type 1} → statement M
 is-barred-spec =

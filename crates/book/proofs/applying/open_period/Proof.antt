@@ -1,78 +1,70 @@
-use Rattle.book.specs.Applying.{replied}
-use Rattle.book.specs.Step.{payoutWords}
-use Rattle.book.specs.State.{pack, heldIn}
-use Rattle.book.specs.declared.Period.{Period}
-use Prim.Native.Nat.{_-_, _≤_, _<_}
-use mathlib.Core.Path.{ap, _∙_}
-use native.Mathlib.Omega.{arith}
-use borrow.Author.Tests.{le-leb, lt-leb}
-use Rattle.book.specs.declared.answers.Answer.the-variants.{Accepted, NotAbove, Full}
-use lib.ListN.{length}
+use mathlib.Core.Path.{_≡_, sym, ap, _∙_}
+use borrow.Author.Tests.{eqb-true, eqb-false, not-true, not-false}
+use Rattle.book.specs.Checks.{refusal}
 use Rattle.book.specs.Kinds.{periodOf}
-use Rattle.book.specs.State.{view, mostPeriods, added}
+use Rattle.book.specs.Periods.{fresh}
+use Rattle.book.specs.State.{view, pack, added}
+use Rattle.book.specs.Rules.{openChecks}
 use Rattle.book.specs.Step.{opened}
-use Rattle.book.specs.Periods.{fresh, zeros}
-use Rattle.book.proofs.StepLaws.{accepted-opens}
-use Rattle.book.proofs.Packing.{count-is}
-use Rattle.book.proofs.ValidLaws.{fresh-holds}
+use Rattle.book.specs.Answers.{numberOf}
+use Rattle.book.specs.Applying.{replied}
+use Rattle.book.proofs.StepLaws.{Opens, opens, accepted-opens}
 use Rattle.book.proofs.Replies.{refuses, accepts, to-open}
 use borrow.Author.Needs.{needs}
 use Rattle.book.proofs.applying.open_period.Statement.{statement}
 use Rattle.book.proofs.applying.open_period.Tie as tie
 
+-- the answer is that of the opening's checks
+answered : (c : tie.After-is-accepted) → let s = c .before .before .before .before .args in
+    numberOf (c .before .opening-answer .result) ≡ refusal (openChecks (view (s .b)) (periodOf (s .e)))
+answered c = c .before .opening-answer .ensures ∙ ap (λ k. refusal (openChecks (view (c .before .before .before .before .args .b)) k)) (c .before .before .period-of .ensures)
+
+opening : (c : tie.Else1) → let s = c .before .before .before .before .before .args in Opens (view (s .b)) (record { entry = s .e; words = s .words .now })
+opening c =
+    let a = c .before in
+    let s = a .before .before .before .before in
+    opens _ _ (s .pre .2) (sym (answered a) ∙ eqb-true _ _ (sym (a .is-accepted .ensures) ∙ not-false _ (c .if1 .left)))
+
 period-of-requires : tie.Need-period-of-requires
 period-of-requires c κs = search needs
+
+opening-answer-requires : tie.Need-opening-answer-requires
+opening-answer-requires c κs = search needs
+
+is-accepted-requires : tie.Need-is-accepted-requires
+is-accepted-requires c κs = search needs
 
 refused-requires : tie.Need-refused-requires
 refused-requires c κs = search needs
 
 returns : tie.Need-returns
 returns c =
-    let s = c .before .before .before .before .before in
-    let k = rw (c .before .before .before .period-of .ensures) at (c .before .if1 .taken) in
-    refuses (s .pre .0) _ _ NotAbove _ (c .refused .ensures) (to-open (s .pre .0) _ _ (s .pre .1) (s .pre .2) ∙ rw (le-leb _ _ k)) (λ z. omega (arith, z))
+    let a = c .before .before in
+    let s = a .before .before .before .before in
+    refuses (s .pre .0) _ _ _ _ (c .refused .ensures) (to-open (s .pre .0) _ _ (s .pre .1) (s .pre .2) ∙ sym (answered a)) (eqb-false _ _ (sym (a .is-accepted .ensures) ∙ not-true _ (c .before .if1 .taken)))
 
-refused-requires-2 : tie.Need-refused-requires-2
-refused-requires-2 c κs = search needs
-
-returns-2 : tie.Need-returns-2
-returns-2 c =
-    let s = c .before .before .before .before .before .before .before in
-    let k = rw (c .before .before .before .before .before .period-of .ensures) at (c .before .before .before .if1 .left) in
-    let f : mostPeriods ≤ length (view (s .args .b) .periods) = omega (arith, count-is (s .pre .0), c .before .if2 .taken) in
-    refuses (s .pre .0) _ _ Full _ (c .refused2 .ensures) (to-open (s .pre .0) _ _ (s .pre .1) (s .pre .2) ∙ rw (lt-leb _ _ k, le-leb _ _ f)) (λ z. omega (arith, z))
-
-put-cells-requires : tie.Need-put-cells-requires
-put-cells-requires c κs = search needs
-
-fresh-period-requires : tie.Need-fresh-period-requires
-fresh-period-requires c κs = search needs
-
-with-period-requires : tie.Need-with-period-requires
-unfolding heldIn
-with-period-requires c κs =
-    let s = c .before .before .before .before .before .before .before .before .before .before .before in
-    (s .pre .0, omega (arith, count-is (s .pre .0), c .before .before .before .before .before .if2 .left), rw (c .fresh-period .ensures) (omega (arith, fresh-holds (s .args .b .n) (c .before .before .before .before .before .before .before .before .before .period-of .result))))
+with-opened-requires : tie.Need-with-opened-requires
+with-opened-requires c κs = let s = c .before .before .before .before .before .before in (s .pre .0, s .pre .1 .enough, opening (c .before) .room)
 
 same-length : tie.Need-same-length
 same-length c = search needs
 
-returns-3 : tie.Need-returns-3
-unfolding zeros payoutWords
-returns-3 c =
-    let s = c .before .before .before .before .before .before .before .before .before .before .before .before in
+returns-2 : tie.Need-returns-2
+returns-2 c =
+    let r = c .before .before in
+    let e = r .before .before in
+    let s = e .before .before .before .before .before in
     let b = s .args .b in
-    let above = rw (c .before .before .before .before .before .before .before .before .before .before .period-of .ensures) at (c .before .before .before .before .before .before .before .before .if1 .left) in
-    let room : length (view b .periods) < mostPeriods = omega (arith, count-is (s .pre .0), c .before .before .before .before .before .before .if2 .left) in
-    accepts (s .pre .0) (s .args .e) (s .args .words .now) (opened (view b) (periodOf (s .args .e)) (s .args .words .now))
-    (replied (record { answer = Accepted; rounds = 0; book = c .with-period .result }) _)
-    (to-open (s .pre .0) _ _ (s .pre .1) (s .pre .2) ∙ rw (lt-leb _ _ above, lt-leb _ _ room))
-    (accepted-opens (view b) _ (record { is-open = s .pre .2; above = above; room = room }))
+    let answer = e .before .before .opening-answer .result in
+    let number : numberOf answer ≡ 0 = eqb-true _ _ (sym (e .before .is-accepted .ensures) ∙ not-false _ (e .if1 .left)) in
+    accepts (s .pre .0) (s .args .e) (s .args .words .now) (opened (view b) (periodOf (s .args .e)) (s .args .words .now)) (replied (record { answer = answer; rounds = 0; book = r .with-opened .result }) _)
+    (to-open (s .pre .0) _ _ (s .pre .1) (s .pre .2) ∙ sym (answered (e .before)) ∙ number)
+    (accepted-opens (view b) _ (opening e))
     (λ z. record {
-      answer = 0;
+      answer = number z;
       rounds = 0;
-      book = (c .with-period .ensures ∙ ap (λ (p : Period). pack (added (view b) p)) (c .before .fresh-period .ensures ∙ ap fresh (c .before .before .before .before .before .before .before .before .before .before .period-of .ensures))) z;
-      words = c .before .before .before .before .put-cells .ensures z;
+      book = (r .with-opened .ensures .0 ∙ ap (λ k. pack (added (view b) (fresh k))) (e .before .before .before .period-of .ensures)) z;
+      words = r .with-opened .ensures .1 z;
     })
 
 pub open-period-spec : {M : Type 1} → statement M
@@ -80,12 +72,10 @@ open-period-spec =
     tie.close
     (tie.spec
     period-of-requires
+    opening-answer-requires
+    is-accepted-requires
     refused-requires
     returns
-    refused-requires-2
-    returns-2
-    put-cells-requires
-    fresh-period-requires
-    with-period-requires
+    with-opened-requires
     same-length
-    returns-3)
+    returns-2)

@@ -7,18 +7,18 @@ use borrow.Author.Needs.{needs}
 use denote.Ref.{now}
 use lib.ListN.{length, getD}
 use lib.Seq.{sets}
-use Rattle.book.specs.Reading.{reading}
 use Rattle.book.specs.State.{view, noPeriod}
 use Rattle.book.specs.Rules.{barring}
 use Rattle.book.specs.Step.{Reply, reply}
 use Rattle.book.specs.Acting.{effect, effectOf}
-use Rattle.book.specs.Postings.{NamedAt, Unnamed, AmountAt, Decides}
+use Rattle.book.specs.Postings.{ReadAt, Decides}
+use Rattle.book.specs.declared.runs.Way.the-variants as way
 use Rattle.book.proofs.Packing.{count-is, count-few, read-in-book}
 use Rattle.book.proofs.Bounds.{arrears-bound}
 use Rattle.book.proofs.Named.{Found}
 use Rattle.book.proofs.Effects.{found-affects, effect-sound, reply-stays, leaves-held, reply-leaves}
 use Rattle.book.proofs.RunLaws.{Turn, Standing, begins, full-ends, unread-ends, turn-on, turn-ends}
-use Rattle.book.proofs.RunTurns.{named-found, effect-turn, amounts-on, amounts-some}
+use Rattle.book.proofs.RunTurns.{named-read, opens-read, refused-read, named-found, effect-turn, refused-turn, opens-fits, opens-turn, amounts-on, amounts-some}
 use Rattle.book.proofs.runs.run.Statement.{statement}
 use Rattle.book.proofs.runs.run.Tie as tie
 
@@ -29,27 +29,33 @@ abbrev μ-loop : tie.MeasureT-loop
 μ-loop bytes from words₀ lines₀ b₀ place₀ wrote₀ words lines b place wrote = length lines - wrote
 
 -- what the way of the entry says of it
-amount-at : (c : tie.After-known-told Inv-loop μ-loop) → let l = c .before .before .before .before .before .loop in
-    AmountAt (l .b) (c .before .before .before .before .before .before .before .before .before .args .bytes .now) (l .place) (length (l .words)) (c .before .j .given .0 .0)
-amount-at c =
+amounts-at : (c : tie.After-known-told Inv-loop μ-loop) → let l = c .before .before .before .before .before .loop in let x = c .before .j .given .0 in
+    ReadAt (l .b) (c .before .before .before .before .before .before .before .before .before .args .bytes .now) (l .place) (length (l .words)) (way.Amounts (x .0))
+amounts-at c =
     let l = c .before .before .before .before .before .loop in
     subst (Decides (l .b) (c .before .before .before .before .before .before .before .before .before .args .bytes .now) (l .place) (length (l .words))) (c .before .j .given .1) (c .before .before .before .way-at .ensures)
 
 named-at : (c : tie.After-known-told2 Inv-loop μ-loop) → let l = c .before .before .before .before .before .loop in let x = c .before .j2 .given .0 in
-    (reading (c .before .before .before .before .before .before .before .before .before .args .bytes .now) (l .place) ≡ record { answer = 0; place = x .1 .1 .0; entry = x .1 .0 ∷ [] }) × NamedAt (l .b) (x .1 .0) (length (l .words)) (x .0)
+    ReadAt (l .b) (c .before .before .before .before .before .before .before .before .before .args .bytes .now) (l .place) (length (l .words)) (way.Named (x .0) (x .1 .0) (x .1 .1 .0))
 named-at c =
     let l = c .before .before .before .before .before .loop in
     subst (Decides (l .b) (c .before .before .before .before .before .before .before .before .before .args .bytes .now) (l .place) (length (l .words))) (c .before .j2 .given .1) (c .before .before .before .way-at .ensures)
 
-other-at : (c : tie.After-known-told3 Inv-loop μ-loop) → let l = c .before .before .before .before .before .loop in let x = c .before .entry .given .0 in
-    (reading (c .before .before .before .before .before .before .before .before .before .args .bytes .now) (l .place) ≡ record { answer = 0; place = x .1 .0; entry = x .0 ∷ [] }) × Unnamed (l .b) (x .0) (length (l .words))
-other-at c =
+opens-at : (c : tie.After-known-told3 Inv-loop μ-loop) → let l = c .before .before .before .before .before .loop in let x = c .before .period .given .0 in
+    ReadAt (l .b) (c .before .before .before .before .before .before .before .before .before .args .bytes .now) (l .place) (length (l .words)) (way.Opens (x .0) (x .1 .0))
+opens-at c =
     let l = c .before .before .before .before .before .loop in
-    subst (Decides (l .b) (c .before .before .before .before .before .before .before .before .before .args .bytes .now) (l .place) (length (l .words))) (c .before .entry .given .1) (c .before .before .before .way-at .ensures)
+    subst (Decides (l .b) (c .before .before .before .before .before .before .before .before .before .args .bytes .now) (l .place) (length (l .words))) (c .before .period .given .1) (c .before .before .before .way-at .ensures)
+
+refused-at : (c : tie.After-known-told4 Inv-loop μ-loop) → let l = c .before .before .before .before .before .loop in let x = c .before .answer .given .0 in
+    ReadAt (l .b) (c .before .before .before .before .before .before .before .before .before .args .bytes .now) (l .place) (length (l .words)) (way.Refused (x .0) (x .1 .0))
+refused-at c =
+    let l = c .before .before .before .before .before .loop in
+    subst (Decides (l .b) (c .before .before .before .before .before .before .before .before .before .args .bytes .now) (l .place) (length (l .words))) (c .before .answer .given .1) (c .before .before .before .way-at .ensures)
 
 -- the period that an entry names was found, and what became of it
 found : (c : tie.After-known-told2 Inv-loop μ-loop) → let l = c .before .before .before .before .before .loop in let x = c .before .j2 .given .0 in Found (l .b) (x .1 .0) (l .words) (x .0)
-found c = let l = c .before .before .before .before .before .loop in named-found (l .words) (l .inv .0 .valid) (named-at c .1)
+found c = let l = c .before .before .before .before .before .loop in named-found (l .words) (l .inv .0 .valid) (named-read (named-at c) .1)
 
 affected : (c : tie.After-apply-to-period Inv-loop μ-loop) → let l = c .before .before .before .before .before .before .before .before .before .loop in let x = c .before .before .before .before .before .j2 .given .0 in
     effectOf (c .apply-to-period .result) (c .apply-to-period .last .1 .1 .1 .1 .1 .0)
@@ -87,32 +93,32 @@ enum-known-j : tie.Need-enum-known-j Inv-loop μ-loop
 enum-known-j c = search needs
 
 mul-p : tie.Need-mul-p Inv-loop μ-loop
-mul-p c = omega (arith, count-few (c .before .before .before .before .before .loop .inv .0 .valid), amount-at c .named .used)
+mul-p c = omega (arith, count-few (c .before .before .before .before .before .loop .inv .0 .valid), amounts-at c .takes .0 .used)
 
 element-copy-out-p : tie.Need-element-copy-out-p Inv-loop μ-loop
-element-copy-out-p c = omega (arith, count-few (c .before .before .before .before .before .loop .inv .0 .valid), amount-at c .named .used)
+element-copy-out-p c = omega (arith, count-few (c .before .before .before .before .before .loop .inv .0 .valid), amounts-at c .takes .0 .used)
 
 post-amounts-requires : tie.Need-post-amounts-requires Inv-loop μ-loop
 post-amounts-requires c κs =
     let l = c .before .before .before .before .before .before .before .loop in
-    (read-in-book (l .inv .0 .valid) _ (amount-at (c .before .before) .named .used) .sound, l .inv .0 .room)
+    (read-in-book (l .inv .0 .valid) _ (amounts-at (c .before .before) .takes .0 .used) .sound, l .inv .0 .room)
 
 mul-q : tie.Need-mul-q Inv-loop μ-loop
-mul-q c = omega (arith, count-few (c .before .before .before .before .before .before .before .before .before .before .before .loop .inv .0 .valid), amount-at (c .before .before .before .before .before .before) .named .used)
+mul-q c = omega (arith, count-few (c .before .before .before .before .before .before .before .before .before .before .before .loop .inv .0 .valid), amounts-at (c .before .before .before .before .before .before) .takes .0 .used)
 
 element-set-from-q : tie.Need-element-set-from-q Inv-loop μ-loop
-element-set-from-q c = omega (arith, count-few (c .before .before .before .before .before .before .before .before .before .before .before .loop .inv .0 .valid), amount-at (c .before .before .before .before .before .before) .named .used)
+element-set-from-q c = omega (arith, count-few (c .before .before .before .before .before .before .before .before .before .before .before .loop .inv .0 .valid), amounts-at (c .before .before .before .before .before .before) .takes .0 .used)
 
 clear-requires : tie.Need-clear-requires Inv-loop μ-loop
 clear-requires c κs =
     let l = c .before .before .before .before .before .before .before .before .before .before .before .before .loop in
-    (l .inv .0 .valid .fit .many, amount-at (c .before .before .before .before .before .before .before) .named .enough)
+    (l .inv .0 .valid .fit .many, amounts-at (c .before .before .before .before .before .before .before) .takes .0 .enough)
 
 loop-less : tie.Need-loop-less Inv-loop μ-loop
 loop-less c =
     let l = c .before .before .before .before .before .before .before .before .before .before .before .before .before .before .before .loop in
     let p = c .before .before .before .before .before .before .before .post-amounts in
-    let some = amounts-some _ _ _ _ _ (l .inv .0) (amount-at (c .before .before .before .before .before .before .before .before .before .before)) (c .before .before .before .before .before .before .before .before .before .before .before .before .before .before .loop-test .taken) in
+    let some = amounts-some _ _ _ _ _ (l .inv .0) (amounts-at (c .before .before .before .before .before .before .before .before .before .before)) (c .before .before .before .before .before .before .before .before .before .before .before .before .before .before .loop-test .taken) in
     let more : l .wrote + 3 ≤ p .result .wrote = rw (p .ensures .3) (omega (arith, some)) in
     let same : length (p .last .1 .1 .1 .1 .1 .0) ≡ length (l .lines) = p .kept .1 .1 .1 .1 .1 .0 in
     omega (arith, more, same, c .before .before .before .before .before .before .before .before .before .before .before .before .before .before .loop-test .taken)
@@ -121,7 +127,7 @@ loop-again : tie.Need-loop-again Inv-loop μ-loop
 loop-again c =
     let l = c .before .before .before .before .before .before .before .before .before .before .before .before .before .before .before .loop in
     let p = c .before .before .before .before .before .before .before .post-amounts in
-    (amounts-on _ _ _ _ _ (l .inv .0) (amount-at (c .before .before .before .before .before .before .before .before .before .before)) _ _ _ _ _ _ (p .ensures) (c .before .before .clear .ensures), c .before .before .clear .kept .0 ∙ l .inv .1)
+    (amounts-on _ _ _ _ _ (l .inv .0) (amounts-at (c .before .before .before .before .before .before .before .before .before .before)) _ _ _ _ _ _ (p .ensures) (c .before .before .clear .ensures), c .before .before .clear .kept .0 ∙ l .inv .1)
 
 enum-known-j-2 : tie.Need-enum-known-j-2 Inv-loop μ-loop
 enum-known-j-2 c = search needs
@@ -171,24 +177,60 @@ loop-less-2 c = omega (arith, c .before .before .before .before .before .before 
 loop-again-2 : tie.Need-loop-again-2 Inv-loop μ-loop
 loop-again-2 c =
     let l = c .before .before .before .before .before .before .before .before .before .before .before .before .before .before .before .before .before .before .before .before .before .loop in
-    (turn-on _ _ _ _ _ (l .inv .0) _ _ (named-at (c .before .before .before .before .before .before .before .before .before .before .before .before .before .before .before .before) .0) (c .before .before .before .before .before .before .before .before .before .before .before .before .before .before .before .before .before .before .before .before .loop-test .taken) _ _ _ _ (named-turn (c .before .before)) (c .if2 .left), c .before .before .before .before .before .before .before .before .before .before .before .before .apply-to-period .kept .1 .1 .1 .1 .1 .0 ∙ l .inv .1)
+    (turn-on _ _ _ _ _ (l .inv .0) _ _ (named-read (named-at (c .before .before .before .before .before .before .before .before .before .before .before .before .before .before .before .before)) .0) (c .before .before .before .before .before .before .before .before .before .before .before .before .before .before .before .before .before .before .before .before .loop-test .taken) _ _ _ _ (named-turn (c .before .before)) (c .if2 .left), c .before .before .before .before .before .before .before .before .before .before .before .before .apply-to-period .kept .1 .1 .1 .1 .1 .0 ∙ l .inv .1)
 
-enum-known-entry : tie.Need-enum-known-entry Inv-loop μ-loop
-enum-known-entry c = search needs
+enum-known-period : tie.Need-enum-known-period Inv-loop μ-loop
+enum-known-period c = search needs
 
-apply-listed-requires : tie.Need-apply-listed-requires Inv-loop μ-loop
-apply-listed-requires c κs = (c .before .before .before .before .before .before .before .loop .inv .0 .valid, omega (arith, c .before .before .before .before .before .before .before .loop .inv .0 .room, c .before .before .before .before .before .before .loop-test .taken), other-at (c .before .before) .1)
+with-opened-requires : tie.Need-with-opened-requires Inv-loop μ-loop
+with-opened-requires c κs =
+    let l = c .before .before .before .before .before .before .loop in
+    let f = opens-fits (l .inv .0 .valid) (l .words) (opens-at (c .before)) in
+    (l .inv .0 .valid, f .0, f .1)
+
+put-line-requires-2 : tie.Need-put-line-requires-2 Inv-loop μ-loop
+put-line-requires-2 c κs = omega (arith, c .before .before .before .before .before .before .before .before .before .before .loop .inv .0 .room, c .before .before .before .before .before .before .before .before .before .loop-test .taken)
 
 add-wrote-2 : tie.Need-add-wrote-2 Inv-loop μ-loop
-add-wrote-2 c = omega (arith, c .before .before .before .before .before .before .before .before .before .before .before .before .loop .inv .0 .size, c .before .before .before .before .before .before .before .before .before .before .before .before .before .before .before .before .good, c .before .before .before .before .before .before .before .before .before .before .before .loop-test .taken)
+add-wrote-2 c = omega (arith, c .before .before .before .before .before .before .before .before .before .before .before .before .before .loop .inv .0 .size, c .before .before .before .before .before .before .before .before .before .before .before .before .before .before .before .before .before .good, c .before .before .before .before .before .before .before .before .before .before .before .before .loop-test .taken)
 
 loop-less-3 : tie.Need-loop-less-3 Inv-loop μ-loop
-loop-less-3 c = omega (arith, c .before .before .before .before .apply-listed .kept .1 .1 .1 .0, c .before .before .before .before .before .before .before .before .before .before .before .before .loop .inv .0 .room, c .before .before .before .before .before .before .before .before .before .before .before .loop-test .taken)
+loop-less-3 c = omega (arith, c .before .before .put-line2 .kept .0, c .before .before .before .before .before .before .before .before .before .before .before .before .before .loop .inv .0 .room, c .before .before .before .before .before .before .before .before .before .before .before .before .loop-test .taken)
 
 loop-again-3 : tie.Need-loop-again-3 Inv-loop μ-loop
 loop-again-3 c =
-    let l = c .before .before .before .before .before .before .before .before .before .before .before .before .loop in
-    (turn-on _ _ _ _ _ (l .inv .0) _ _ (other-at (c .before .before .before .before .before .before .before) .0) (c .before .before .before .before .before .before .before .before .before .before .before .loop-test .taken) _ _ _ _ (c .before .before .before .before .apply-listed .ensures) refl, c .before .before .before .before .apply-listed .kept .1 .1 .0 ∙ l .inv .1)
+    let l = c .before .before .before .before .before .before .before .before .before .before .before .before .before .loop in
+    let a = opens-at (c .before .before .before .before .before .before .before .before) in
+    let o = c .before .before .before .before .before .before .with-opened in (
+      turn-on _ _ _ _ _ (l .inv .0) _ _ (opens-read a) (c .before .before .before .before .before .before .before .before .before .before .before .before .loop-test .taken) _ _ _ _
+          (opens-turn (l .inv .0 .valid) (a .entry) (l .words) (l .lines) (l .wrote) (a .takes .2) (a .takes .3 (l .words) refl) _ (a .takes .0) _ (o .ensures .0) _ (o .ensures .1) _ (c .before .before .put-line2 .ensures)) refl,
+      o .kept .1 .1 .0 ∙ l .inv .1,
+    )
+
+enum-known-answer : tie.Need-enum-known-answer Inv-loop μ-loop
+enum-known-answer c = search needs
+
+number-requires-2 : tie.Need-number-requires-2 Inv-loop μ-loop
+number-requires-2 c κs = search needs
+
+put-line-requires-3 : tie.Need-put-line-requires-3 Inv-loop μ-loop
+put-line-requires-3 c κs = omega (arith, c .before .before .before .before .before .before .before .loop .inv .0 .room, c .before .before .before .before .before .before .loop-test .taken)
+
+add-wrote-3 : tie.Need-add-wrote-3 Inv-loop μ-loop
+add-wrote-3 c = omega (arith, c .before .before .before .before .before .before .before .before .before .before .loop .inv .0 .size, c .before .before .before .before .before .before .before .before .before .before .before .before .before .before .good, c .before .before .before .before .before .before .before .before .before .loop-test .taken)
+
+loop-less-4 : tie.Need-loop-less-4 Inv-loop μ-loop
+loop-less-4 c = omega (arith, c .before .before .put-line3 .kept .0, c .before .before .before .before .before .before .before .before .before .before .loop .inv .0 .room, c .before .before .before .before .before .before .before .before .before .loop-test .taken)
+
+loop-again-4 : tie.Need-loop-again-4 Inv-loop μ-loop
+loop-again-4 c =
+    let l = c .before .before .before .before .before .before .before .before .before .before .loop in
+    let a = refused-at (c .before .before .before .before .before) in (
+      turn-on _ _ _ _ _ (l .inv .0) _ _ (refused-read a) (c .before .before .before .before .before .before .before .before .before .loop-test .taken) _ _ _ _
+          (refused-turn (l .inv .0 .valid) (a .entry) (l .words) (l .lines) (l .wrote) _ (a .takes .2 (l .words) refl) (a .takes .1) _
+          (c .before .before .put-line3 .ensures ∙ (λ z. sets (l .lines) (l .wrote) (c .before .before .before .number2 .ensures z ∷ 0 ∷ l .b .held ∷ [])))) refl,
+      l .inv .1,
+    )
 
 enum-told : tie.Need-enum-told Inv-loop μ-loop
 enum-told c = search needs
@@ -209,7 +251,7 @@ same-length-4 : tie.Need-same-length-4 Inv-loop μ-loop
 same-length-4 c = c .before .before .before .before .before .before .put-line .kept .0 ∙ c .before .before .before .before .before .before .before .before .before .before .before .before .before .before .before .before .before .before .before .before .before .loop .inv .0 .size
 
 returns-2 : tie.Need-returns-2 Inv-loop μ-loop
-returns-2 c = turn-ends _ _ _ _ _ (c .before .before .before .before .before .before .before .before .before .before .before .before .before .before .before .before .before .before .before .before .before .loop .inv .0) _ _ (named-at (c .before .before .before .before .before .before .before .before .before .before .before .before .before .before .before .before) .0) (c .before .before .before .before .before .before .before .before .before .before .before .before .before .before .before .before .before .before .before .before .loop-test .taken) _ _ _ _ (named-turn (c .before .before)) (c .if2 .taken)
+returns-2 c = turn-ends _ _ _ _ _ (c .before .before .before .before .before .before .before .before .before .before .before .before .before .before .before .before .before .before .before .before .before .loop .inv .0) _ _ (named-read (named-at (c .before .before .before .before .before .before .before .before .before .before .before .before .before .before .before .before)) .0) (c .before .before .before .before .before .before .before .before .before .before .before .before .before .before .before .before .before .before .before .before .loop-test .taken) _ _ _ _ (named-turn (c .before .before)) (c .if2 .taken)
 
 same-length-5 : tie.Need-same-length-5 Inv-loop μ-loop
 same-length-5 c = c .before .before .before .before .loop .inv .1
@@ -254,11 +296,18 @@ run-spec =
     element-set-from-q-2
     loop-less-2
     loop-again-2
-    enum-known-entry
-    apply-listed-requires
+    enum-known-period
+    with-opened-requires
+    put-line-requires-2
     add-wrote-2
     loop-less-3
     loop-again-3
+    enum-known-answer
+    number-requires-2
+    put-line-requires-3
+    add-wrote-3
+    loop-less-4
+    loop-again-4
     enum-told
     same-length
     same-length-2
