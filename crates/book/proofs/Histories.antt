@@ -43,7 +43,7 @@ module _ (s : State) (x : Input) (f : SoundState s) (log : Log) (inv : Inv (s .n
       (by-kind s x (i .1))
 
 -- an entry leaves the number of participants
-step-n : (s : State) (x : Input) → step s x .state .n ≡ s .n
+pub step-n : (s : State) (x : Input) → step s x .state .n ≡ s .n
 unfolding step accepted stored replaced removed added
 step-n s x =
     cases (λ (o : Outcome). o .state .n ≡ s .n) (eqb (refusal (checks s x)) 0)

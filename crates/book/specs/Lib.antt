@@ -19,4 +19,5 @@ pub mod Postings
 pub mod Log
 pub mod Demand3
 pub mod RunDemand3
+pub mod RunReplies
 pub mod Examples

@@ -4,8 +4,9 @@ use mathlib.Core.Logic.{_⊎_, inl, inr}
 use mathlib.Core.List.{List, [], _∷_}
 use Rattle.book.specs.State.{Making}
 use Rattle.book.specs.Rules.{Input}
-use Rattle.book.specs.Running.{run, inputsOf}
+use Rattle.book.specs.Running.{Run, run, inputsOf}
 use Rattle.book.specs.Demand3.{History, begun, next, after, Clauses}
+use Rattle.book.specs.declared.Book.{Book}
 
 -- a block of the feed as it is lent: its bytes, the place of the next entry, the payout words, and the room for lines
 pub record Block : Type 0 where
@@ -14,12 +15,16 @@ pub record Block : Type 0 where
   pub words : List ℕ
   pub room : ℕ
 
+-- a block's run from a book, and the entries that it applies
+abbrev pub ran : Book → Block → Run
+ran b x = run (x .bytes) (x .room) b (x .place) (x .words)
+
+abbrev pub entriesIn : Book → Block → List Input
+entriesIn b x = inputsOf (x .bytes) (x .room) b (x .place) (x .words)
+
 -- the run's own book, and the log of the entries that were answered 0 so far
 unfoldable pub afterRun : History → Block → History
-afterRun h x = record {
-  book = run (x .bytes) (x .room) (h .book) (x .place) (x .words) .book;
-  log = after h (inputsOf (x .bytes) (x .room) (h .book) (x .place) (x .words)) .log;
-}
+afterRun h x = record { book = ran (h .book) x .book; log = after h (entriesIn (h .book) x) .log }
 
 -- an entry that is applied, or a block that is run
 abbrev pub Work : Type 0
