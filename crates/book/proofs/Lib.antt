@@ -36,5 +36,5 @@ mod PostingLaws
 mod RunTurns
 mod PostingSteps
 pub mod Demand3
-pub mod RunReplies
+mod RunReplies
 pub mod RunDemand3

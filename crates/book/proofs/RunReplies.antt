@@ -18,7 +18,7 @@ use Rattle.book.specs.Running.{Run, paidBy, lineOf, stopped, lined, run,
 use Rattle.book.specs.Log.{Accepted, Log, moneyPaid}
 use Rattle.book.specs.Demand3.{History, begun, next, after}
 use Rattle.book.specs.RunDemand3.{Block, ran, entriesIn, afterRun, Work, afterWork, afterAll}
-use Rattle.book.specs.RunReplies.{replies, bookAfter, wordsAfter, linesOf, paidWords, total, RunOf, paidAt, paidOver, RunsAreReplies}
+use Rattle.book.specs.RunReplies.{replies, bookAfter, wordsAfter, linesOf, paidWords, total, RunOf, paidAt, paidOver}
 use Rattle.book.specs.declared.Book.{Book}
 use Rattle.book.proofs.StepLaws.{enters, step-answer}
 use Rattle.book.proofs.Histories.{step-n}
@@ -89,7 +89,7 @@ pub ran-replies : (b : Book) (x : Block) → RunOf b (x .words) (entriesIn b x) 
 ran-replies b x = run-replies (x .bytes) (x .room) b (x .place) (x .words)
 
 -- the book has n participants, or none, where its making was refused
-abbrev Sized : ℕ → Book → Type 0
+abbrev pub Sized : ℕ → Book → Type 0
 Sized n b = (b .n ≡ 0) ⊎ (b .n ≡ n)
 
 still-sized : (n : ℕ) (b c : Book) → c .n ≡ b .n → Sized n b → Sized n c
@@ -135,7 +135,7 @@ module _ (n : ℕ) where
     rw (reply-n (h .book) x) at (after-paid (next h x) inputs (still-sized n (h .book) (next h x .book) (reply-n (h .book) x) s)),
   )
 
-  run-paid : (h : History) (x : Block) → Sized n (h .book)
+  pub run-paid : (h : History) (x : Block) → Sized n (h .book)
       → moneyPaid n (afterRun h x .log) ≡ moneyPaid n (h .log) + total (paidWords (ran (h .book) x .lines))
   unfolding afterRun
   run-paid h x s = rw (ran-replies (h .book) x .lines) (after-paid h (entriesIn (h .book) x) s)
@@ -151,14 +151,8 @@ module _ (n : ℕ) where
   all-paid h (x ∷ work) s =
       omega (arith, work-paid h x s, all-paid (afterWork h x) work (still-sized n (h .book) (afterWork h x .book) (work-n h x) s))
 
-begun-sized : (m : Making) → Sized (m .n) (begun m .book)
-unfolding begun made pack
-begun-sized m = cases-eq (λ z. (z ≡ 0) ⊎ (z ≡ m .n)) (refusal (makingChecks m)) 0 (λ _. inr refl) (λ _. inl refl)
-
-pub runs-are-replies : RunsAreReplies
-unfolding begun moneyPaid
-runs-are-replies = record {
-  each = ran-replies;
-  paid = λ h x. run-paid (h .book .n) h x (inr refl);
-  all-paid = λ m work. omega (arith, all-paid (m .n) (begun m) work (begun-sized m));
-}
+pub begun-paid : (m : Making) (work : List Work) → moneyPaid (m .n) (afterAll (begun m) work .log) ≡ paidOver (begun m) work
+unfolding begun made pack moneyPaid
+begun-paid m work =
+    let sized = cases-eq (λ z. (z ≡ 0) ⊎ (z ≡ m .n)) (refusal (makingChecks m)) 0 (λ _. inr refl) (λ _. inl refl) in
+    omega (arith, all-paid (m .n) (begun m) work sized)

@@ -10,7 +10,7 @@ use Rattle.book.specs.Step.{Reply, reply}
 use Rattle.book.specs.Running.{Run, paidBy, lineOf}
 use Rattle.book.specs.Log.{moneyPaid}
 use Rattle.book.specs.Demand3.{History, begun}
-use Rattle.book.specs.RunDemand3.{Block, ran, entriesIn, afterRun, Work, afterWork, afterAll}
+use Rattle.book.specs.RunDemand3.{Block, ran, entriesIn, afterRun, Work, afterWork, afterAll, RunDemand3}
 use Rattle.book.specs.declared.Book.{Book}
 
 -- the replies to entries, each applied to the book that the one before it handed back
@@ -75,7 +75,9 @@ unfoldable pub paidOver : History → List Work → ℕ
 paidOver h [] = 0
 paidOver h (x ∷ work) = paidAt (h .book) x + paidOver (afterWork h x) work
 
-pub record RunsAreReplies : Type 0 where
+-- all that is claimed of block runs, alone and among single entries
+pub record BlockRuns : Type 0 where
+  pub demand3 : RunDemand3
   pub each : (b : Book) (x : Block) → RunOf b (x .words) (entriesIn b x) (ran b x)
   -- money paid, as demand 3 reckons it from the log, grows by the paid words of a run's lines ..
   pub paid : (h : History) (x : Block)
