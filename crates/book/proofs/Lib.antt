@@ -5,6 +5,7 @@ pub mod Outcomes
 pub mod RoundTrips
 mod FeedLaws
 mod BookExamples
+mod Limits
 mod CellLaws
 mod ListLaws
 mod Passing

@@ -21,3 +21,4 @@ pub mod Demand3
 pub mod RunDemand3
 pub mod RunReplies
 pub mod Examples
+pub mod Limits
