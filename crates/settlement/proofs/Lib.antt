@@ -7,5 +7,6 @@ mod TierLaws
 mod RoundLaws
 mod Running
 mod SettleLaws
+mod EnoughRounds
 mod LateLaws
 pub mod Laws

@@ -13,7 +13,7 @@ use Rattle.exact.proofs.Cases.{cases-eq, le-or-lt}
 use Rattle.exact.proofs.Ceiling.{ceil-zero}
 use Rattle.exact.proofs.RowLaws.{sum-cong, sum-mono, sum-add, sum-const, sum-term, sum-zero, sum-same-or-less}
 use Rattle.exact.proofs.Shares.{weighted, ceil-sum}
-use Rattle.settlement.specs.Rounds.{Standing, weight, loss, round, run, spread}
+use Rattle.settlement.specs.Rounds.{Standing, weight, loss, round, run, start, spread}
 
 pub weight-le : (v balance : ℕ → ℕ) (i : ℕ) → weight v balance i ≤ v i
 unfolding weight
@@ -203,25 +203,22 @@ module _ (n : ℕ) (v : ℕ → ℕ) where
       omega (arith, run-le k (round n v s) i, round-le s i)))
 
   module _ (balance : ℕ → ℕ) (deficit : ℕ) where
-    abbrev pub start : Standing
-    start = record { balance = balance; deficit = deficit; rounds = 0 }
-
     pub spread-le : (i : ℕ) → spread n v balance deficit .balance i ≤ balance i
     unfolding spread
-    spread-le i = run-le n start i
+    spread-le i = run-le n (start balance deficit) i
 
-    pub spread-none : deficit ≡ 0 → spread n v balance deficit ≡ start
+    pub spread-none : deficit ≡ 0 → spread n v balance deficit ≡ start balance deficit
     unfolding spread
-    spread-none e = run-done n start e
+    spread-none e = run-done n (start balance deficit) e
 
-    module _ (backed : Backed start) where
-      pub spread-ended : Ended start (spread n v balance deficit)
+    module _ (backed : Backed (start balance deficit)) where
+      pub spread-ended : Ended (start balance deficit) (spread n v balance deficit)
       unfolding spread
-      spread-ended = run-ended n start backed (positives-le start)
+      spread-ended = run-ended n (start balance deficit) backed (positives-le (start balance deficit))
 
       pub spread-rounds : spread n v balance deficit .rounds ≤ n
       unfolding spread
-      spread-rounds = omega (arith, run-ended n start backed (positives-le start), positives-le start)
+      spread-rounds = omega (arith, run-ended n (start balance deficit) backed (positives-le (start balance deficit)), positives-le (start balance deficit))
 
 -- two standings that agree below n
 pub record Alike (n : ℕ) (s t : Standing) : Type 0 where

@@ -10,11 +10,11 @@ use Rattle.exact.proofs.Shares.{Near}
 use Rattle.settlement.specs.Month.{Month, owingTo}
 use Rattle.settlement.specs.Notice.{Retained, payable}
 use Rattle.settlement.specs.Claims.{arrears, claim}
-use Rattle.settlement.specs.Rounds.{Standing, spread}
+use Rattle.settlement.specs.Rounds.{Standing, start, spread}
 use Rattle.settlement.specs.Settling.{available, revised, scaledAbove, scaledBelow, deficit, spent, rounds, paid, held}
 use Rattle.settlement.proofs.ClaimLaws.{claim-le, claim-total, arrears-total-le}
 use Rattle.settlement.proofs.TierLaws.{met-le, met-all, met-near}
-use Rattle.settlement.proofs.RoundLaws.{Backed, start, spread-le, spread-none, spread-ended, spread-rounds}
+use Rattle.settlement.proofs.RoundLaws.{Backed, spread-le, spread-none, spread-ended, spread-rounds}
 
 module _ (m : Month) (retained received : ℕ → ℕ) (sound : Retained m retained) where
   -- V_i ≤ O_i
@@ -47,7 +47,7 @@ module _ (m : Month) (retained received : ℕ → ℕ) (sound : Retained m retai
   unfolding scaledAbove
   scaled-le-revised i = omega (arith, claim-le m retained received sound i)
 
-  pub scaled-backed : Backed (m .n) (revised m retained received) (start (m .n) (revised m retained received) (scaledAbove m retained received) (deficit m retained received))
+  pub scaled-backed : Backed (m .n) (revised m retained received) (start (scaledAbove m retained received) (deficit m retained received))
   scaled-backed i _ = scaled-le-revised i
 
   pub revised-total-le : sum (revised m retained received) (m .n) ≤ sum (owingTo m) (m .n)
@@ -86,7 +86,7 @@ module _ (m : Month) (retained received : ℕ → ℕ) (sound : Retained m retai
     unfolding deficit scaledBelow
     deficit-none = sum-zero (scaledBelow m retained received) (m .n) (λ i _. omega (arith, revised-all i))
 
-    spent-none : spent m retained received ≡ start (m .n) (revised m retained received) (scaledAbove m retained received) (deficit m retained received)
+    spent-none : spent m retained received ≡ start (scaledAbove m retained received) (deficit m retained received)
     unfolding spent
     spent-none = spread-none (m .n) (revised m retained received) (scaledAbove m retained received) (deficit m retained received) deficit-none
 

@@ -1,5 +1,7 @@
 -- The rounds that take a deficit from positive balances (01, Settlement, step 4; 14.59(4)(b) and (5)).
 use Prim.Native.Nat.{ℕ, zero, suc, _+_, _-_, _*_, _≤_, _<_, min}
+use mathlib.Core.Path.{_≡_}
+use mathlib.Core.Logic.{_⊎_}
 use mathlib.Core.Bool.{cond}
 use lib.Dec.{eqb}
 use Rattle.exact.specs.Rows.{places, sum}
@@ -11,6 +13,10 @@ pub record Standing : Type 0 where
   pub balance : ℕ → ℕ
   pub deficit : ℕ
   pub rounds : ℕ
+
+-- before the first round
+abbrev pub start : (ℕ → ℕ) → ℕ → Standing
+start balance deficit = record { balance = balance; deficit = deficit; rounds = 0 }
 
 -- V_i where i's balance is positive; W is the sum of these
 unfoldable pub weight : (ℕ → ℕ) → (ℕ → ℕ) → ℕ → ℕ
@@ -35,9 +41,17 @@ module _ (n : ℕ) (v : ℕ → ℕ) where
   run zero s = s
   run (suc k) s = cond (eqb (s .deficit) 0) s (cond (eqb (sum (s .balance) n) 0) s (run k (round s)))
 
-  -- the rounds from balances and a deficit: n are as many as can run
+  -- the rounds from balances and a deficit: n are as many as can run (`RoundsSuffice`)
   unfoldable pub spread : (ℕ → ℕ) → ℕ → Standing
-  spread balance deficit = run n (record { balance = balance; deficit = deficit; rounds = 0 })
+  spread balance deficit = run n (start balance deficit)
+
+  -- what it means that n rounds, from balances and a deficit, are as many as can run
+  pub record Suffice (balance : ℕ → ℕ) (deficit : ℕ) : Type 0 where
+    -- the deficit is 0 after them, or no balance is positive
+    pub ended : (spread balance deficit .deficit ≡ 0) ⊎ ((i : ℕ) → i < n → spread balance deficit .balance i ≡ 0)
+    pub few : spread balance deficit .rounds ≤ n
+    -- the same is reached where any more are allowed
+    pub more : (k : ℕ) → n ≤ k → run k (start balance deficit) ≡ spread balance deficit
 
 -- what the arithmetic of the rounds leans on: no balance is above its revised amount, so that a positive one has a weight
 pub record Backing (n : ℕ) (v balance : ℕ → ℕ) (deficit : ℕ) : Type 0 where
@@ -45,3 +59,7 @@ pub record Backing (n : ℕ) (v balance : ℕ → ℕ) (deficit : ℕ) : Type 0 
   pub backed : (i : ℕ) → i < n → balance i ≤ v i
   pub revised-total : sum v n ≤ sideLimit
   pub deficit-bound : deficit ≤ sideLimit
+
+-- n rounds are as many as can run where no balance is above its revised amount (01, Settlement, step 4: at most n)
+abbrev pub RoundsSuffice : Type 0
+RoundsSuffice = (n : ℕ) (v balance : ℕ → ℕ) (deficit : ℕ) → ((i : ℕ) → i < n → balance i ≤ v i) → Suffice n v balance deficit

@@ -2,9 +2,10 @@
 use Prim.Native.Nat.{ℕ, _+_, _-_}
 use Rattle.exact.specs.Rows.{sum, cells}
 use Rattle.settlement.specs.Month.{Month, owingTo}
+use Rattle.settlement.specs.Notice.{Retained}
 use Rattle.settlement.specs.Claims.{arrears, claim}
 use Rattle.settlement.specs.Tiers.{met}
-use Rattle.settlement.specs.Rounds.{Standing, spread}
+use Rattle.settlement.specs.Rounds.{Standing, spread, Suffice}
 use Rattle.settlement.specs.declared.scaling.Scaled.{Scaled}
 use Rattle.settlement.specs.declared.settling.Settled.{Settled}
 
@@ -59,6 +60,12 @@ module _ (m : Month) (retained received : ℕ → ℕ) where
     arrears = cells (arrears m retained received) (m .n);
     paid = cells paid (m .n);
   }
+
+-- n rounds are as many as can run in the settlement of any month (01, Settlement, step 4: at most n)
+abbrev pub SettlementEnds : Type 0
+SettlementEnds =
+    (m : Month) (retained received : ℕ → ℕ) → Retained m retained
+    → Suffice (m .n) (revised m retained received) (scaledAbove m retained received) (deficit m retained received)
 
 -- held money: received − paid
 unfoldable pub held : ℕ → (ℕ → ℕ) → (ℕ → ℕ) → ℕ
