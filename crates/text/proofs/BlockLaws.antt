@@ -1,9 +1,12 @@
--- Bytes moved to the front of a block.
+-- Bytes moved to the front of a block, and bytes that wait to be written out.
 use Prim.Native.Nat.{ℕ, suc, _+_, _-_, _≤_, _<_}
 use mathlib.Core.Path.{_≡_, refl, sym, ap, _∙_}
+use mathlib.Core.Bool.{Bool, true, false, cond}
 use mathlib.Core.List.{List, _++_}
 use native.Mathlib.Omega.{arith}
 use native.Mathlib.Numerals.{add-one}
+use borrow.Author.Tests.{leb-true}
+use lib.Dec.{leb}
 use lib.ListN.{length, set, getD, take, drop, length-append, length-drop}
 use lib.Seq.{length-take-le, drop-at, getD-drop, take-suc, drop-cons, set-at, append-snoc}
 use Rattle.text.specs.Blocks.{kept}
@@ -34,3 +37,11 @@ module _ (b : List ℕ) (from i : ℕ) where
       ∙ sym (getD-drop from b i 0) in
       rw (same, drop-cons b i 0 (omega arith), add-one i, take-suc s i 0 less)
       (set-at (take i s) (getD b i 0) (drop (suc i) b) (getD s i 0) i front ∙ sym (append-snoc (take i s) (getD s i 0) (drop (suc i) b)))
+
+-- no more bytes wait than may
+pub waiting-le : (wrote most wait : ℕ) → wait ≡ cond (leb wrote most) wrote 0 → wait ≤ most
+waiting-le wrote most wait h = go (leb wrote most) refl h
+  where
+    go : (t : Bool) → leb wrote most ≡ t → wait ≡ cond t wrote 0 → wait ≤ most
+    go true e w = omega (arith, w, leb-true wrote most e)
+    go false e w = omega (arith, w)

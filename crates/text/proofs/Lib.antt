@@ -1,3 +1,3 @@
 pub mod PutLaws
 pub mod NumberLaws
-mod BlockLaws
+pub mod BlockLaws

@@ -1,6 +1,8 @@
 // Blocks of standard input and standard output, in lent bytes.
 ghost use Prim.Native.Nat.{_-_, _≤_};
 ghost use mathlib.Core.Path.{_≡_};
+ghost use mathlib.Core.Bool.{cond};
+ghost use lib.Dec.{leb};
 ghost use lib.ListN.{length, take, drop};
 ghost use Rattle.text.specs.Blocks.{Filled, kept};
 use libc::STDIN_FILENO;
@@ -41,7 +43,7 @@ pub fn keep(block: &mut [u8], from: usize, to: usize) -> usize
 // Writes the first `wrote` bytes out where they are more than `most`; answers how many still wait.
 pub fn flush(block: &[u8], wrote: usize, most: usize) -> usize
     requires { ⌜ wrote ≤ length (now block) ⌝ }
-    ensures { λ r. ⌜ r ≤ most ⌝ }
+    ensures { λ r. ⌜ r ≡ cond (leb wrote most) wrote 0 ⌝ }
 {
     if wrote <= most {
         return wrote;

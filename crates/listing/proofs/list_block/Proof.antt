@@ -4,6 +4,7 @@ use native.Mathlib.Omega.{arith}
 use lib.ListN.{length}
 use Rattle.book.specs.Valid.{Valid}
 use Rattle.book.proofs.RunValid.{run-within}
+use Rattle.text.proofs.BlockLaws.{waiting-le}
 use borrow.Author.Needs.{needs}
 use Rattle.listing.proofs.list_block.Statement.{statement}
 use Rattle.listing.proofs.list_block.Tie as tie
@@ -48,7 +49,7 @@ loop-less c = search needs
 loop-again : tie.Need-loop-again Inv-loop μ-loop
 loop-again c =
     let r = c .before .before .before .before .before .before .before .before .before .before .before in
-    (left r .0, c .before .flush .ensures, omega (arith, r .before .before .before .loop-test .taken))
+    (left r .0, waiting-le (c .before .before .before .before .put-run .result) 16384 _ (c .before .flush .ensures), omega (arith, r .before .before .before .loop-test .taken))
 
 returns : tie.Need-returns Inv-loop μ-loop
 returns c = search needs

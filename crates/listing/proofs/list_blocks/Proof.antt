@@ -1,6 +1,7 @@
 use Prim.Native.Nat.{_-_, _≤_}
 use native.Mathlib.Omega.{arith}
 use Rattle.book.specs.Valid.{Valid}
+use Rattle.text.proofs.BlockLaws.{waiting-le}
 use borrow.Author.Needs.{needs}
 use Rattle.listing.proofs.list_blocks.Statement.{statement}
 use Rattle.listing.proofs.list_blocks.Tie as tie
@@ -50,7 +51,7 @@ cut-requires : tie.Need-cut-requires Inv-loop μ-loop
 cut-requires c κs = search needs
 
 finish-requires-2 : tie.Need-finish-requires-2 Inv-loop μ-loop
-finish-requires-2 c κs = search needs
+finish-requires-2 c κs = omega (arith, waiting-le (c .before .before .before .before .before .before .before .before .before .before .before .before .before .before .before .list-block .result .wrote) 0 _ (c .before .before .before .before .before .flush .ensures))
 
 returns-2 : tie.Need-returns-2 Inv-loop μ-loop
 returns-2 c = search needs
@@ -60,7 +61,7 @@ loop-less c = omega (arith, c .before .before .before .before .before .before .b
 
 loop-again : tie.Need-loop-again Inv-loop μ-loop
 loop-again c =
-    (c .before .before .before .before .before .before .before .before .before .before .before .before .before .list-block .ensures .0, omega (arith, c .before .before .before .flush .ensures), omega (arith, c .before .fill .ensures .within), omega (arith, c .before .before .before .before .before .before .before .before .before .before .before .before .before .before .before .before .before .before .before .before .loop-test .taken))
+    (c .before .before .before .before .before .before .before .before .before .before .before .before .before .list-block .ensures .0, omega (arith, waiting-le (c .before .before .before .before .before .before .before .before .before .before .before .before .before .list-block .result .wrote) 0 _ (c .before .before .before .flush .ensures)), omega (arith, c .before .fill .ensures .within), omega (arith, c .before .before .before .before .before .before .before .before .before .before .before .before .before .before .before .before .before .before .before .before .loop-test .taken))
 
 finish-requires-3 : tie.Need-finish-requires-3 Inv-loop μ-loop
 finish-requires-3 c κs = search needs

@@ -3,6 +3,7 @@ use native.Mathlib.Omega.{arith}
 use lib.ListN.{length, length-take}
 use Prim.Native.Nat.{_-_, _≤_}
 use Rattle.book.specs.Valid.{Valid}
+use Rattle.text.proofs.BlockLaws.{waiting-le}
 use borrow.Author.Needs.{needs}
 use Rattle.trial.proofs.call_all.Statement.{statement}
 use Rattle.trial.proofs.call_all.Tie as tie
@@ -68,7 +69,7 @@ loop-again-2 c =
       c .before .before .before .before .call .ensures .0,
       omega (arith, c .before .before .before .before .before .before .before .before .before .before .length-of .ensures, c .before .before .before .before .before .before .before .before .before .before .before .call-at .ensures, simp length-take at (ap length (p .ensures)), l .inv .1),
       l .inv .2,
-      c .flush .ensures,
+      waiting-le (c .before .before .before .before .call .result .wrote) 57344 _ (c .flush .ensures),
       omega (arith, c .before .before .before .before .before .before .before .before .before .before .before .before .before .before .before .loop-test .taken),
     )
 
