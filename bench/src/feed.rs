@@ -7,10 +7,10 @@ use reckoning::book::Book;
 use reckoning::codec::{Entry, AMOUNT, ENERGY, MOST_CENTS};
 use reckoning::random::Random;
 
-pub const ENTRIES: usize = 1_000_000;
+const ENTRIES: usize = 1_000_000;
 const YEARS: usize = 10;
 const PERIODS: usize = 12;
-const N: u8 = 64;
+pub const N: u8 = 64;
 
 /// Of each period: entries that add to its sides, and entries of it that are refused.
 const ADDED: usize = 7_500;
@@ -193,9 +193,9 @@ pub fn added(entries: &[Entry]) -> usize {
     entries.iter().filter(adds).count()
 }
 
-/// The feed's bytes: n, then the entries.
-pub fn bytes(entries: &[Entry]) -> Vec<u8> {
-    let mut bytes = vec![N];
+/// A feed's bytes: n, then the entries.
+pub fn bytes(n: u8, entries: &[Entry]) -> Vec<u8> {
+    let mut bytes = vec![n];
     entries.iter().for_each(|entry| bytes.extend(entry.bytes()));
     bytes
 }

@@ -1,8 +1,10 @@
-//! The listing against the reckoning's, each as a process of its own on the same feeds.
+//! The listing against the reckoning's, each as a process of its own on the same feeds, and
+//! against itself where it refuses.
 
 use crate::batches::Times;
 use crate::feed::{self, Feed};
 use crate::processor::spent;
+use crate::refused::{self, Alike};
 use reckoning::codec::Entry;
 use std::fs::{self, File};
 use std::io;
@@ -14,6 +16,8 @@ use std::time::{Duration, Instant};
 const FEWEST: usize = 3;
 const MOST: usize = 7;
 const ENOUGH: Duration = Duration::from_secs(60);
+
+const NOTHING: &str = "/dev/null";
 
 /// What lists a feed: the proved listing, and this program with the word `list`.
 struct Programs {
@@ -46,17 +50,27 @@ impl Programs {
         Ok(())
     }
 
-    fn compare(&self, name: &str, feed: &Path, output: &Path) {
-        let (start, mut times) = (Instant::now(), Times::default());
-        for turn in 0..MOST {
-            if turn >= FEWEST && start.elapsed() > ENOUGH {
-                break;
-            }
-            times
-                .take(|| spent(|| self.ours(feed, output)), || spent(|| self.theirs(feed, output)));
-        }
-        times.print(name, feed::ENTRIES);
+    fn compare(&self, name: &str, entries: usize, feed: &Path, output: &Path) {
+        in_turn(name, entries, || self.ours(feed, output), || self.theirs(feed, output));
     }
+
+    /// Ours on one feed against ours on another of as many entries.
+    fn compare_ours(&self, name: &str, entries: usize, feeds: [&Path; 2]) {
+        let [one, other] = feeds.map(|feed| || self.ours(feed, Path::new(NOTHING)));
+        in_turn(name, entries, one, other);
+    }
+}
+
+/// Times two runs in turn, and prints the ratio of the first to the second.
+fn in_turn(name: &str, entries: usize, one: impl Fn(), other: impl Fn()) {
+    let (start, mut times) = (Instant::now(), Times::default());
+    for turn in 0..MOST {
+        if turn >= FEWEST && start.elapsed() > ENOUGH {
+            break;
+        }
+        times.take(|| spent(&one), || spent(&other));
+    }
+    times.print(name, entries);
 }
 
 fn print_reach(name: &str, entries: &[Entry]) {
@@ -65,18 +79,46 @@ fn print_reach(name: &str, entries: &[Entry]) {
 }
 
 /// Feed A names the next period with each entry; feed B has the same entries by period.
-pub fn measure(listing: &Path, folder: &Path) -> io::Result<()> {
-    let programs = Programs { ours: listing.to_path_buf(), theirs: std::env::current_exe()? };
+fn periods(programs: &Programs, folder: &Path) -> io::Result<()> {
     let mut entries = Feed::make().entries;
     for (name, file) in [("feed A, in rotation", "a.feed"), ("feed B, by period", "b.feed")] {
         print_reach(name, &entries);
-        let feed = folder.join(file);
-        fs::write(&feed, feed::bytes(&entries))?;
+        let (feed, count) = (folder.join(file), entries.len());
+        fs::write(&feed, feed::bytes(feed::N, &entries))?;
         programs.check(&feed, folder)?;
-        programs.compare(&format!("listing, {name}, to a file"), &feed, &folder.join("out"));
-        programs.compare(&format!("listing, {name}, to nothing"), &feed, Path::new("/dev/null"));
+        let name = format!("listing, {name}");
+        programs.compare(&format!("{name}, to a file"), count, &feed, &folder.join("out"));
+        programs.compare(&format!("{name}, to nothing"), count, &feed, Path::new(NOTHING));
         // Entries of one period keep their order.
         entries.sort_by_key(|entry| entry.period);
     }
     Ok(())
+}
+
+/// Writes a part of feed C, and compares the listings of it.
+fn one_answer(programs: &Programs, feed: &Alike, file: &Path, folder: &Path) -> io::Result<()> {
+    fs::write(file, feed::bytes(feed.n, &feed.entries))?;
+    programs.check(file, folder)?;
+    let name = format!("listing, feed C, {}", feed.name);
+    programs.compare(&name, feed.entries.len(), file, Path::new(NOTHING));
+    Ok(())
+}
+
+/// Each part of feed C has one answer; a refusal is also measured against accepted amounts.
+fn answers(programs: &Programs, folder: &Path) -> io::Result<()> {
+    let [accepted, file] = ["accepted.feed", "refused.feed"].map(|name| folder.join(name));
+    one_answer(programs, &refused::accepted(), &accepted, folder)?;
+    for make in refused::REFUSED {
+        let feed = make();
+        one_answer(programs, &feed, &file, folder)?;
+        let name = format!("ours, feed C, {} / accepted", feed.name);
+        programs.compare_ours(&name, feed.entries.len(), [&file, &accepted]);
+    }
+    Ok(())
+}
+
+pub fn measure(listing: &Path, folder: &Path) -> io::Result<()> {
+    let programs = Programs { ours: listing.to_path_buf(), theirs: std::env::current_exe()? };
+    periods(&programs, folder)?;
+    answers(&programs, folder)
 }

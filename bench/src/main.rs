@@ -10,6 +10,7 @@ mod listings;
 mod months;
 mod processor;
 mod proportions;
+mod refused;
 #[allow(dead_code)]
 #[path = "../../tests/reckoning/src/bin/months/slices.rs"]
 mod slices;
