@@ -14,8 +14,7 @@ use Rattle.book.specs.State.{view, pack, heldIn, find, periodAt, replace
 use Rattle.book.specs.Rules.{Input, Entered, periodChecks, barring, openChecks, namedChecks, kindChecks, checks}
 use Rattle.book.specs.Step.{Outcome, accepted, Reply, reply}
 use Rattle.book.specs.Valid.{Valid}
-use Rattle.book.specs.Answers.{numberOf}
-use Rattle.book.specs.Applying.{replied}
+use Rattle.book.specs.Answers.{numberOf, replied}
 use Rattle.book.specs.declared.answers.Answer.{Answer}
 use Rattle.book.specs.declared.applying.Applied.{Applied}
 use Rattle.book.specs.declared.entries.Entry.{Entry}

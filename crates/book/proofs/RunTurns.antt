@@ -21,11 +21,12 @@ use Rattle.book.specs.Step.{payoutWords, opened, reply}
 use Rattle.book.specs.Valid.{Valid}
 use Rattle.book.specs.Acting.{Effect, effect}
 use Rattle.book.specs.Running.{paidBy, run}
-use Rattle.book.specs.Postings.{NamedAt, Takes, ReadAt, Decides, Postings, posts, postings, cleared}
+use Rattle.book.specs.Ways.{NamedAt, Takes, ReadAt, Decides}
+use Rattle.book.specs.Postings.{Postings, posts, postings, cleared}
 use Rattle.book.specs.declared.answers.Answer.{Answer}
 use Rattle.book.specs.declared.entries.Entry.{Entry}
-use Rattle.book.specs.declared.runs.Way.{Way}
-use Rattle.book.specs.declared.runs.Way.the-variants as way
+use Rattle.book.specs.declared.ways.Way.{Way}
+use Rattle.book.specs.declared.ways.Way.the-variants as way
 use Rattle.book.specs.declared.Period.{Period}
 use Rattle.book.specs.declared.Book.{Book}
 use Rattle.book.proofs.ListLaws.{find-number}

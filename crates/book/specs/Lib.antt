@@ -13,8 +13,8 @@ pub mod Step
 pub mod Valid
 pub mod Answers
 pub mod Acting
-pub mod Applying
 pub mod Running
+pub mod Ways
 pub mod Postings
 pub mod Log
 pub mod Demand3

@@ -18,6 +18,7 @@ mod places;
 mod postings;
 mod reader;
 mod runs;
+mod ways;
 mod writer;
 
 pub use answers::Answer;

@@ -1,34 +1,24 @@
 // A block of the feed: its entries read and applied one after the other, by a function that owns the book for them.
 ghost use Prim.Native.Nat.{_≤_};
 ghost use mathlib.Core.Path.{_≡_};
-ghost use mathlib.Core.Bool.{true};
 ghost use lib.ListN.{length};
 ghost use lib.Seq.{sets};
 ghost use Rattle.exact.specs.Rows.{places};
-ghost use Rattle.book.specs.Allowed.{allowed};
 ghost use Rattle.book.specs.Valid.{Valid};
 ghost use Rattle.book.specs.Running.{run};
-ghost use Rattle.book.specs.Postings.{Takes, Decides, cleared};
+ghost use Rattle.book.specs.Postings.{cleared};
 use crate::Book;
 use crate::affecting::apply_to_period;
-use crate::answering::opening_answer;
-use crate::answers::Answer;
-use crate::answers::is_accepted;
 use crate::answers::number;
 use crate::applying::is_barred;
 use crate::applying::with_opened;
-use crate::entries::Entry;
-use crate::feed::read_next;
-use crate::kinds::is_amount;
-use crate::kinds::is_open;
-use crate::kinds::period_of;
 use crate::lines::LINE;
 use crate::lines::put_line;
 use crate::periods::is_leaving;
-use crate::places::place;
 use crate::places::without_period;
 use crate::postings::post_amounts;
-use crate::reader::Reading;
+use crate::ways::Way;
+use crate::ways::way_at;
 use exact::PLACES;
 use exact::put_cells;
 
@@ -37,62 +27,6 @@ pub struct Ran {
     pub book: Book,
     pub place: usize,
     pub wrote: usize,
-}
-
-// The way of the entry at a place: energy or an amount of the period at place j of the book, another entry that names the
-// period there, an opening that is accepted, an entry that is refused by what the book shows without a look at a period (4 to
-// 8), or none.
-enum Way {
-    Amounts { j: usize },
-    Named { j: usize, entry: Entry, next: usize },
-    Opens { period: u32, next: usize },
-    Refused { answer: Answer, next: usize },
-    Unread,
-}
-
-// The way of an entry, with that many payout words lent.
-fn way_of(b: Book, e: Entry, next: usize, room: usize) -> Way
-    requires { ⌜ Valid b × (allowed e ≡ true) ⌝ }
-    ensures { λ r. ⌜ Takes b e next room r ⌝ }
-{
-    if b.n == 0 {
-        let answer = Answer::NoParticipants;
-        return Way::Refused { answer, next };
-    }
-    if room < b.n {
-        let answer = Answer::FewWords;
-        return Way::Refused { answer, next };
-    }
-    let k = period_of(e);
-    if is_open(e) {
-        let answer = opening_answer(b, k);
-        if is_accepted(answer) {
-            return Way::Opens { period: k, next };
-        }
-        return Way::Refused { answer, next };
-    }
-    let j = place(b, k);
-    if b.count <= j {
-        let answer = Answer::NotInBook;
-        return Way::Refused { answer, next };
-    }
-    if is_amount(e) {
-        return Way::Amounts { j };
-    }
-    Way::Named { j, entry: e, next }
-}
-
-// The way of the entry at a place.
-fn way_at(b: Book, bytes: &[u8], place: usize, room: usize) -> Way
-    requires { ⌜ Valid b ⌝ }
-    ensures { λ r. ⌜ Decides b (now (bytes .entry)) place room r ⌝ }
-{
-    match read_next(bytes, place) {
-        Reading::Found { entry, next } => way_of(b, entry, next, room),
-        Reading::Short => Way::Unread,
-        Reading::Unknown => Way::Unread,
-        Reading::Outside => Way::Unread,
-    }
 }
 
 // Sets the first n payout words to 0 where an entry was accepted.

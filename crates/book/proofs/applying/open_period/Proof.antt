@@ -6,8 +6,7 @@ use Rattle.book.specs.Periods.{fresh}
 use Rattle.book.specs.State.{view, pack, added}
 use Rattle.book.specs.Rules.{openChecks}
 use Rattle.book.specs.Step.{opened}
-use Rattle.book.specs.Answers.{numberOf}
-use Rattle.book.specs.Applying.{replied}
+use Rattle.book.specs.Answers.{numberOf, replied}
 use Rattle.book.proofs.StepLaws.{Opens, opens, accepted-opens}
 use Rattle.book.proofs.Replies.{refuses, accepts, to-open}
 use borrow.Author.Needs.{needs}

@@ -11,8 +11,8 @@ use Rattle.book.specs.State.{view, noPeriod}
 use Rattle.book.specs.Rules.{barring}
 use Rattle.book.specs.Step.{Reply, reply}
 use Rattle.book.specs.Acting.{effect, effectOf}
-use Rattle.book.specs.Postings.{ReadAt, Decides}
-use Rattle.book.specs.declared.runs.Way.the-variants as way
+use Rattle.book.specs.Ways.{ReadAt, Decides}
+use Rattle.book.specs.declared.ways.Way.the-variants as way
 use Rattle.book.proofs.Packing.{count-is, count-few, read-in-book}
 use Rattle.book.proofs.Bounds.{arrears-bound}
 use Rattle.book.proofs.Named.{Found}

@@ -8,12 +8,12 @@ use Rattle.book.specs.Checks.{refusal}
 use Rattle.book.specs.State.{view}
 use Rattle.book.specs.Rules.{Entered, openChecks, checks}
 use Rattle.book.specs.Answers.{numberOf}
-use Rattle.book.specs.Postings.{NamedAt}
+use Rattle.book.specs.Ways.{NamedAt}
 use Rattle.book.proofs.Packing.{count-is}
 use Rattle.book.proofs.Replies.{to-open, not-found}
 use borrow.Author.Needs.{needs}
-use Rattle.book.proofs.runs.way_of.Statement.{statement}
-use Rattle.book.proofs.runs.way_of.Tie as tie
+use Rattle.book.proofs.ways.way_of.Statement.{statement}
+use Rattle.book.proofs.ways.way_of.Tie as tie
 
 -- 4, 5 and 3 are passed
 entered : (c : tie.After-is-open) (w : List ℕ) → let s = c .before .before .before .before .before .before .args in

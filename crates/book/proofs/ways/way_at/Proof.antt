@@ -5,8 +5,8 @@ use Rattle.book.specs.Reading.{ReadOutcome, reading, readOutcome}
 use Rattle.book.proofs.RunLaws.{read-allowed}
 use Rattle.book.proofs.RunTurns.{decides}
 use borrow.Author.Needs.{needs}
-use Rattle.book.proofs.runs.way_at.Statement.{statement}
-use Rattle.book.proofs.runs.way_at.Tie as tie
+use Rattle.book.proofs.ways.way_at.Statement.{statement}
+use Rattle.book.proofs.ways.way_at.Tie as tie
 
 -- the entry that was read
 read : (c : tie.After-known-told) → let s = c .before .before .before .before .before .args in
