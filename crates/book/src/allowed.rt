@@ -3,7 +3,7 @@ use crate::entries::Entry;
 use exact::PLACES;
 use settlement::TIERS;
 ghost use mathlib.Core.Path.{_≡_};
-ghost use Rattle.book.specs.Allowed.{allowed, none, tierOutside, centsOutside};
+ghost use Rattle.book.specs.layouts.Allowed.{allowed, none, tierOutside, centsOutside};
 ghost use Rattle.book.specs.declared.entries.Entry.the-variants.{Energy, Amount, Receipt};
 
 const PARTICIPANTS: u8 = PLACES as u8;

@@ -1,7 +1,7 @@
 // The book's answers.
 ghost use mathlib.Core.Path.{_≡_};
 ghost use lib.Dec.{eqb};
-ghost use Rattle.book.specs.Answers.{numberOf};
+ghost use Rattle.book.specs.rules.Answers.{numberOf};
 
 pub enum Answer {
     Accepted,

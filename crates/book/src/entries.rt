@@ -1,6 +1,6 @@
 // Entries by kind, with the fields of 01 at their widths.
 ghost use mathlib.Core.Path.{_≡_};
-ghost use Rattle.book.specs.Entries.{kindOf, unknown};
+ghost use Rattle.book.specs.layouts.Entries.{kindOf, unknown};
 
 pub enum Entry {
     Open {

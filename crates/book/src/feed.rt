@@ -2,7 +2,7 @@
 use crate::reader::Reading;
 use crate::reader::read_entry;
 ghost use mathlib.Core.Path.{_≡_};
-ghost use Rattle.book.specs.Reading.{reading, readOutcome};
+ghost use Rattle.book.specs.layouts.Reading.{reading, readOutcome};
 
 pub struct Feed<'a> {
     bytes: &'a [u8],

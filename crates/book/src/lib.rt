@@ -2,12 +2,11 @@
 use exact::Row;
 use settlement::TierCells;
 
-mod acting;
-mod affecting;
 mod allowed;
-mod answering;
 mod answers;
-mod applying;
+mod blocks;
+mod changes;
+mod effects;
 mod entries;
 mod feed;
 mod fields;
@@ -17,14 +16,15 @@ mod periods;
 mod places;
 mod postings;
 mod reader;
-mod runs;
+mod refusals;
+mod steps;
 mod ways;
 mod writer;
 
 pub use answers::Answer;
 pub use answers::number;
-pub use applying::Applied;
-pub use applying::apply;
+pub use blocks::Ran;
+pub use blocks::run;
 pub use entries::Entry;
 pub use feed::Feed;
 pub use feed::feed_at;
@@ -35,8 +35,8 @@ pub use places::Made;
 pub use places::held;
 pub use places::new;
 pub use reader::Reading;
-pub use runs::Ran;
-pub use runs::run;
+pub use steps::Applied;
+pub use steps::apply;
 pub use writer::Writing;
 pub use writer::write_entry;
 

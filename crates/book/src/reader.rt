@@ -9,10 +9,10 @@ use crate::fields::word_at;
 ghost use mathlib.Core.Path.{_≡_};
 ghost use Prim.Native.Nat.{_+_, _≤_};
 ghost use lib.ListN.{length};
-ghost use Rattle.book.specs.Fields.{fieldsAt};
-ghost use Rattle.book.specs.Entries.{bodyLength, unknown, layout, entryOf};
+ghost use Rattle.book.specs.layouts.Fields.{fieldsAt};
+ghost use Rattle.book.specs.layouts.Entries.{bodyLength, unknown, layout, entryOf};
 ghost use mathlib.Core.Bool.{false};
-ghost use Rattle.book.specs.Reading.{reading, readOutcome};
+ghost use Rattle.book.specs.layouts.Reading.{reading, readOutcome};
 
 // What stands at a place: an entry, with the place after it, or nothing that can be read.
 pub enum Reading {

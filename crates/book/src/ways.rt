@@ -1,11 +1,10 @@
 // The way that the block run takes with an entry.
 ghost use mathlib.Core.Path.{_≡_};
 ghost use mathlib.Core.Bool.{true};
-ghost use Rattle.book.specs.Allowed.{allowed};
-ghost use Rattle.book.specs.Valid.{Valid};
-ghost use Rattle.book.specs.Ways.{Takes, Decides};
+ghost use Rattle.book.specs.layouts.Allowed.{allowed};
+ghost use Rattle.book.specs.rules.Valid.{Valid};
+ghost use Rattle.book.specs.inner.Ways.{Takes, Decides};
 use crate::Book;
-use crate::answering::opening_answer;
 use crate::answers::Answer;
 use crate::answers::is_accepted;
 use crate::entries::Entry;
@@ -15,6 +14,7 @@ use crate::kinds::is_open;
 use crate::kinds::period_of;
 use crate::places::place;
 use crate::reader::Reading;
+use crate::refusals::opening_answer;
 
 // The way of the entry at a place: energy or an amount of the period at place j of the book, another entry that names the
 // period there, an opening that is accepted, an entry that is refused by what the book shows without a look at a period (4 to

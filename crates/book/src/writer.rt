@@ -9,9 +9,9 @@ ghost use Prim.Native.Nat.{_+_, _≤_};
 ghost use lib.ListN.{length};
 ghost use lib.Seq.{sets};
 ghost use mathlib.Core.List.{[], _∷_};
-ghost use Rattle.book.specs.Fields.{bytes, fieldBytes};
-ghost use Rattle.book.specs.Entries.{bytesOf, size};
-ghost use Rattle.book.specs.Writing.{writing, written, writeOutcome};
+ghost use Rattle.book.specs.layouts.Fields.{bytes, fieldBytes};
+ghost use Rattle.book.specs.layouts.Entries.{bytesOf, size};
+ghost use Rattle.book.specs.layouts.Writing.{writing, written, writeOutcome};
 ghost use Rattle.book.specs.declared.entries.Entry.the-variants.{Energy, Amount, Receipt};
 
 // How many bytes were written, or why none was.

@@ -1,7 +1,7 @@
 // Lists a feed: n as one byte, then entries, from standard input; a line for each entry, and one for each payout.
 ghost use Prim.Native.Nat.{_≤_};
 ghost use Rattle.text.specs.Puts.{Puts};
-ghost use Rattle.book.specs.Valid.{Valid};
+ghost use Rattle.book.specs.rules.Valid.{Valid};
 ghost use Rattle.listing.specs.Lines.{runOf, unreadOf};
 
 mod lines;

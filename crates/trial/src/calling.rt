@@ -1,7 +1,7 @@
 // The calls of the book's functions, each with its line.
 ghost use Prim.Native.Nat.{_+_, _≤_, _<_};
 ghost use lib.ListN.{length};
-ghost use Rattle.book.specs.Valid.{Valid};
+ghost use Rattle.book.specs.rules.Valid.{Valid};
 ghost use Rattle.trial.specs.Calls.{callLength};
 use crate::calls::Call;
 use crate::calls::READ_LENGTH;

@@ -3,7 +3,7 @@ mod calling;
 mod calls;
 mod lines;
 
-ghost use Rattle.book.specs.Valid.{Valid};
+ghost use Rattle.book.specs.rules.Valid.{Valid};
 use book::Book;
 use calling::BLOCK;
 use calling::call;

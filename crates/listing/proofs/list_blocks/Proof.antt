@@ -1,6 +1,6 @@
 use Prim.Native.Nat.{_-_, _≤_}
 use native.Mathlib.Omega.{arith}
-use Rattle.book.specs.Valid.{Valid}
+use Rattle.book.specs.rules.Valid.{Valid}
 use Rattle.text.proofs.BlockLaws.{waiting-le}
 use borrow.Author.Needs.{needs}
 use Rattle.listing.proofs.list_blocks.Statement.{statement}

@@ -2,7 +2,7 @@ use mathlib.Core.Path.{ap}
 use native.Mathlib.Omega.{arith}
 use lib.ListN.{length, length-take}
 use Prim.Native.Nat.{_-_, _≤_}
-use Rattle.book.specs.Valid.{Valid}
+use Rattle.book.specs.rules.Valid.{Valid}
 use Rattle.text.proofs.BlockLaws.{waiting-le}
 use borrow.Author.Needs.{needs}
 use Rattle.trial.proofs.call_all.Statement.{statement}

@@ -1,6 +1,6 @@
 use borrow.Author.Tests.{eq-eqb, ne-eqb}
-use Rattle.book.specs.Allowed.{centsLimit}
-use Rattle.book.proofs.CheckLaws.{within-last}
+use Rattle.book.specs.layouts.Allowed.{centsLimit}
+use Rattle.book.proofs.rules.CheckLaws.{within-last}
 use Rattle.book.proofs.allowed.cents_allowed.Statement.{statement}
 use Rattle.book.proofs.allowed.cents_allowed.Tie as tie
 

@@ -1,6 +1,6 @@
 use borrow.Author.Tests.{lt-ltb, le-ltb, le-leb, lt-leb}
 use Rattle.exact.specs.Energy.{priceLimit}
-use Rattle.book.proofs.CheckLaws.{within-last}
+use Rattle.book.proofs.rules.CheckLaws.{within-last}
 use Rattle.book.proofs.allowed.energy_allowed.Statement.{statement}
 use Rattle.book.proofs.allowed.energy_allowed.Tie as tie
 

@@ -1,6 +1,6 @@
 use borrow.Author.Needs.{needs}
 use mathlib.Core.Path.{sym, ap, _∙_}
-use Rattle.book.specs.Allowed.{allowed}
+use Rattle.book.specs.layouts.Allowed.{allowed}
 use Rattle.book.proofs.allowed.is_allowed.Statement.{statement}
 use Rattle.book.proofs.allowed.is_allowed.Tie as tie
 

@@ -26,7 +26,7 @@ use denote.Triple.Clauses.{Clauses}
 use denote.Triple.Entry.{alive}
 use denote.Triple.Walked.{says}
 use Rattle.book.specs.declared.feed.Feed.{Feed}
-use Rattle.book.proofs.FeedLaws.{Start, Walk, ends, proved}
+use Rattle.book.proofs.layouts.FeedLaws.{Start, Walk, ends, proved}
 use Rattle.book.proofs.feed.Feed as feed-type
 use Rattle.book.proofs.feed.Feed.Laws as feed-laws
 use Rattle.book.proofs.feed.feed_at as feed-at

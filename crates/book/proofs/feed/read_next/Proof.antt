@@ -27,9 +27,9 @@ use denote.Triple.Clauses.{Clauses}
 use denote.Triple.Entry.{alive, onEntry}
 use denote.Triple.Spec.{Back}
 use denote.Triple.Walked.{says}
-use Rattle.book.specs.Reading.{reading, readOutcome}
+use Rattle.book.specs.layouts.Reading.{reading, readOutcome}
 use Rattle.book.specs.declared.feed.Feed.{Feed}
-use Rattle.book.proofs.FeedLaws.{promise, Start, Walk, ends, proved, calls}
+use Rattle.book.proofs.layouts.FeedLaws.{promise, Start, Walk, ends, proved, calls}
 use Rattle.book.proofs.feed.Feed as feed-type
 use Rattle.book.proofs.feed.Feed.Laws as feed-laws
 use Rattle.book.proofs.reader.Reading as reading-type

@@ -5,8 +5,8 @@ use mathlib.Core.Path.{_≡_}
 use Prim.Native.Nat.{_+_, _-_, _^_, _≤_, _<_}
 use native.Mathlib.Nat.{pow-le-pow-right, le-refl, sub-self, add-zero, sub-zero}
 use denote.Ref.{now}
-use Rattle.book.specs.Fields.{valueAt}
-use Rattle.book.proofs.FieldLaws.{value-none, value-step}
+use Rattle.book.specs.layouts.Fields.{valueAt}
+use Rattle.book.proofs.layouts.FieldLaws.{value-none, value-step}
 use Rattle.book.proofs.fields.field.Statement.{statement}
 use Rattle.book.proofs.fields.field.Tie as tie
 

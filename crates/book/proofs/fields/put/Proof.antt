@@ -6,8 +6,8 @@ use Prim.Native.Nat.{_+_, _-_, _≤_}
 use native.Mathlib.Nat.{add-zero, sub-zero}
 use lib.ListN.{length, length-set}
 use lib.Seq.{sets}
-use Rattle.book.specs.Fields.{bytes}
-use Rattle.book.proofs.FieldLaws.{put-step, put-none}
+use Rattle.book.specs.layouts.Fields.{bytes}
+use Rattle.book.proofs.layouts.FieldLaws.{put-step, put-none}
 use Rattle.book.proofs.fields.put.Statement.{statement}
 use Rattle.book.proofs.fields.put.Tie as tie
 

@@ -1,5 +1,5 @@
 use mathlib.Core.Path.{refl}
-use Rattle.book.specs.Periods.{zeros, fresh}
+use Rattle.book.specs.rules.Periods.{zeros, fresh}
 use Rattle.book.proofs.periods.fresh_period.Statement.{statement}
 use Rattle.book.proofs.periods.fresh_period.Tie as tie
 

@@ -1,7 +1,7 @@
 use borrow.Author.Needs.{needs}
 use mathlib.Core.Path.{sym, _∙_}
 use borrow.Author.Tests.{lt-ltb, le-ltb}
-use Rattle.book.specs.State.{arrearsBefore}
+use Rattle.book.specs.rules.State.{arrearsBefore}
 use Rattle.book.proofs.periods.has_arrears_before.Statement.{statement}
 use Rattle.book.proofs.periods.has_arrears_before.Tie as tie
 

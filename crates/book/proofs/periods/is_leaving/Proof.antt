@@ -1,6 +1,6 @@
 use borrow.Author.Needs.{needs}
 use mathlib.Core.Path.{sym, _∙_}
-use Rattle.book.specs.Periods.{leaves}
+use Rattle.book.specs.rules.Periods.{leaves}
 use Rattle.book.proofs.periods.is_leaving.Statement.{statement}
 use Rattle.book.proofs.periods.is_leaving.Tie as tie
 

@@ -1,4 +1,4 @@
-use Rattle.book.specs.State.{pack, heldIn}
+use Rattle.book.specs.rules.State.{pack, heldIn}
 use borrow.Author.Needs.{needs}
 use Rattle.book.proofs.places.empty_book.Statement.{statement}
 use Rattle.book.proofs.places.empty_book.Tie as tie

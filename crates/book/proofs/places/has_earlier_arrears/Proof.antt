@@ -2,8 +2,8 @@ use Prim.Native.Nat.{_-_, _≤_}
 use mathlib.Core.Path.{_≡_, refl, sym, _∙_}
 use native.Mathlib.Omega.{arith}
 use lib.ListN.{drop}
-use Rattle.book.specs.State.{view, mostPeriods, earlierArrears}
-use Rattle.book.proofs.Packing.{earlier-more, earlier-end}
+use Rattle.book.specs.rules.State.{view, mostPeriods, earlierArrears}
+use Rattle.book.proofs.records.Packing.{earlier-more, earlier-end}
 use borrow.Author.Needs.{needs}
 use Rattle.book.proofs.places.has_earlier_arrears.Statement.{statement}
 use Rattle.book.proofs.places.has_earlier_arrears.Tie as tie

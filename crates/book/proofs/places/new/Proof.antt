@@ -1,7 +1,7 @@
 use Prim.Native.Nat.{_-_}
 use mathlib.Core.Path.{_∙_}
 use borrow.Author.Tests.{lt-ltb, le-ltb, eq-eqb, ne-eqb}
-use Rattle.book.specs.State.{made}
+use Rattle.book.specs.rules.State.{made}
 use borrow.Author.Needs.{needs}
 use Rattle.book.proofs.places.new.Statement.{statement}
 use Rattle.book.proofs.places.new.Tie as tie

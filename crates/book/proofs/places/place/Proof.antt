@@ -2,8 +2,8 @@ use Prim.Native.Nat.{_+_, _-_, _≤_, min}
 use mathlib.Core.Path.{_≡_}
 use native.Mathlib.Omega.{arith}
 use lib.ListN.{drop}
-use Rattle.book.specs.State.{view, find, mostPeriods}
-use Rattle.book.proofs.Packing.{count-few, find-here, find-past, find-nowhere}
+use Rattle.book.specs.rules.State.{view, find, mostPeriods}
+use Rattle.book.proofs.records.Packing.{count-few, find-here, find-past, find-nowhere}
 use borrow.Author.Needs.{needs}
 use Rattle.book.proofs.places.place.Statement.{statement}
 use Rattle.book.proofs.places.place.Tie as tie

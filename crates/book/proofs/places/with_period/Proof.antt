@@ -1,9 +1,9 @@
-use Rattle.book.specs.State.{view}
+use Rattle.book.specs.rules.State.{view}
 use mathlib.Core.List.{[], _∷_}
 use Prim.Native.Nat.{_-_}
 use native.Mathlib.Omega.{arith}
-use Rattle.book.proofs.Packing.{count-is, count-few, pushed}
-use Rattle.book.proofs.Invariant.{held-join}
+use Rattle.book.proofs.records.Packing.{count-is, count-few, pushed}
+use Rattle.book.proofs.history.Invariant.{held-join}
 use Rattle.book.proofs.places.with_period.Statement.{statement}
 use Rattle.book.proofs.places.with_period.Tie as tie
 

@@ -1,7 +1,7 @@
 use Prim.Native.Nat.{_-_, _≤_}
 use mathlib.Core.Path.{_≡_, refl, sym, _∙_}
 use native.Mathlib.Omega.{arith}
-use Rattle.book.proofs.Packing.{count-is, count-few, slide, slide-more, slide-end, dropped}
+use Rattle.book.proofs.records.Packing.{count-is, count-few, slide, slide-more, slide-end, dropped}
 use borrow.Author.Needs.{needs}
 use Rattle.book.proofs.places.without_period.Statement.{statement}
 use Rattle.book.proofs.places.without_period.Tie as tie

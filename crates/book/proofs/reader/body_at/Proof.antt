@@ -1,9 +1,9 @@
 use native.Mathlib.Omega.{arith}
 use mathlib.Core.Path.{_≡_, ap}
-use Rattle.book.specs.Fields.{fieldsAt}
-use Rattle.book.specs.Entries.{entryOf}
+use Rattle.book.specs.layouts.Fields.{fieldsAt}
+use Rattle.book.specs.layouts.Entries.{entryOf}
 use Rattle.book.specs.declared.entries.Entry.the-variants.{Open, Notice, Settle}
-use Rattle.book.proofs.EntryLaws.{known}
+use Rattle.book.proofs.layouts.EntryLaws.{known}
 use Rattle.book.proofs.reader.body_at.Statement.{statement}
 use Rattle.book.proofs.reader.body_at.Tie as tie
 

@@ -7,10 +7,10 @@ use Prim.Native.Nat.{_≤_, _<_}
 use lib.ListN.{length}
 use denote.Ref.{now}
 use Rattle.book.specs.Checks.{refusal}
-use Rattle.book.specs.Entries.{bodyLengths, bodyLength, unknown}
-use Rattle.book.specs.Allowed.{allowed}
-use Rattle.book.specs.Reading.{kindAt, entryAt, readChecks, reading}
-use Rattle.book.proofs.EntryLaws.{known, body-le}
+use Rattle.book.specs.layouts.Entries.{bodyLengths, bodyLength, unknown}
+use Rattle.book.specs.layouts.Allowed.{allowed}
+use Rattle.book.specs.layouts.Reading.{kindAt, entryAt, readChecks, reading}
+use Rattle.book.proofs.layouts.EntryLaws.{known, body-le}
 use Rattle.book.proofs.reader.read_entry.Statement.{statement}
 use Rattle.book.proofs.reader.read_entry.Tie as tie
 

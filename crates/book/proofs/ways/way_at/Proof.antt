@@ -1,9 +1,9 @@
 use mathlib.Core.Path.{_≡_, sym, ap, _∙_}
 use mathlib.Core.List.{[], _∷_}
 use denote.Ref.{now}
-use Rattle.book.specs.Reading.{ReadOutcome, reading, readOutcome}
-use Rattle.book.proofs.RunLaws.{read-allowed}
-use Rattle.book.proofs.RunTurns.{decides}
+use Rattle.book.specs.layouts.Reading.{ReadOutcome, reading, readOutcome}
+use Rattle.book.proofs.runs.RunLaws.{read-allowed}
+use Rattle.book.proofs.runs.RunTurns.{decides}
 use borrow.Author.Needs.{needs}
 use Rattle.book.proofs.ways.way_at.Statement.{statement}
 use Rattle.book.proofs.ways.way_at.Tie as tie

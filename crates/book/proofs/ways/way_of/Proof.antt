@@ -5,12 +5,12 @@ use native.Mathlib.Omega.{arith}
 use borrow.Author.Tests.{eq-eqb, ne-eqb, lt-ltb, eqb-true, eqb-false}
 use lib.ListN.{length}
 use Rattle.book.specs.Checks.{refusal}
-use Rattle.book.specs.State.{view}
-use Rattle.book.specs.Rules.{Entered, openChecks, checks}
-use Rattle.book.specs.Answers.{numberOf}
-use Rattle.book.specs.Ways.{NamedAt}
-use Rattle.book.proofs.Packing.{count-is}
-use Rattle.book.proofs.Replies.{to-open, not-found}
+use Rattle.book.specs.rules.State.{view}
+use Rattle.book.specs.rules.Refusals.{Entered, openChecks, checks}
+use Rattle.book.specs.rules.Answers.{numberOf}
+use Rattle.book.specs.inner.Ways.{NamedAt}
+use Rattle.book.proofs.records.Packing.{count-is}
+use Rattle.book.proofs.records.Replies.{to-open, not-found}
 use borrow.Author.Needs.{needs}
 use Rattle.book.proofs.ways.way_of.Statement.{statement}
 use Rattle.book.proofs.ways.way_of.Tie as tie

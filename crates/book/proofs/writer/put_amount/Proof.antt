@@ -1,5 +1,5 @@
 use borrow.Author.Needs.{needs}
-use Rattle.book.specs.Entries.{bytesOf}
+use Rattle.book.specs.layouts.Entries.{bytesOf}
 use Rattle.book.proofs.writer.put_amount.Statement.{statement}
 use Rattle.book.proofs.writer.put_amount.Tie as tie
 

@@ -1,6 +1,6 @@
 use borrow.Author.Needs.{needs}
-use Rattle.book.specs.Fields.{bytes, fieldBytes}
-use Rattle.book.specs.Entries.{bytesOf}
+use Rattle.book.specs.layouts.Fields.{bytes, fieldBytes}
+use Rattle.book.specs.layouts.Entries.{bytesOf}
 use Rattle.book.proofs.writer.put_entry.Statement.{statement}
 use Rattle.book.proofs.writer.put_entry.Tie as tie
 

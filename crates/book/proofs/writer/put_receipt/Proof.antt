@@ -2,8 +2,8 @@
 use borrow.Author.Needs.{needs}
 use mathlib.Core.List.{[], _∷_}
 use mathlib.Core.Path.{sym, _∙_}
-use Rattle.book.specs.Entries.{layout, bytesOf}
-use Rattle.book.proofs.FieldLaws.{put-fields}
+use Rattle.book.specs.layouts.Entries.{layout, bytesOf}
+use Rattle.book.proofs.layouts.FieldLaws.{put-fields}
 use Rattle.book.proofs.writer.put_receipt.Statement.{statement}
 use Rattle.book.proofs.writer.put_receipt.Tie as tie
 

@@ -2,7 +2,7 @@
 use borrow.Author.Needs.{needs}
 use mathlib.Core.List.{[], _∷_}
 use mathlib.Core.Path.{sym, _∙_}
-use Rattle.book.proofs.FieldLaws.{put-fields}
+use Rattle.book.proofs.layouts.FieldLaws.{put-fields}
 use Rattle.book.proofs.writer.put_sided.Statement.{statement}
 use Rattle.book.proofs.writer.put_sided.Tie as tie
 

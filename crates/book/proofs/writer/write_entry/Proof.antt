@@ -7,10 +7,10 @@ use Prim.Native.Nat.{ℕ, _+_, _≤_}
 use borrow.Author.Tests.{lt-ltb, le-ltb, not-true, not-false}
 use denote.Ref.{now}
 use lib.ListN.{length}
-use Rattle.book.specs.Entries.{bodyLength, bytesOf, size}
-use Rattle.book.specs.Allowed.{allowed}
-use Rattle.book.specs.Writing.{writing, written}
-use Rattle.book.proofs.EntryLaws.{kind-lt, size-le, bytes-size, put-front}
+use Rattle.book.specs.layouts.Entries.{bodyLength, bytesOf, size}
+use Rattle.book.specs.layouts.Allowed.{allowed}
+use Rattle.book.specs.layouts.Writing.{writing, written}
+use Rattle.book.proofs.layouts.EntryLaws.{kind-lt, size-le, bytes-size, put-front}
 use Rattle.book.proofs.writer.write_entry.Statement.{statement}
 use Rattle.book.proofs.writer.write_entry.Tie as tie
 

@@ -1,0 +1,90 @@
+-- 01's limits come out of the definitions by computation.
+use mathlib.Core.Path.{refl}
+use Rattle.book.specs.examples.Months.{stateAfter}
+use Rattle.book.specs.examples.Limits.{JustBytes, FieldLimits, ByteLimits, BookLimits, Limits}
+use Rattle.book.specs.layouts.Fields.{valueAt, bytes, fieldsAt, fieldBytes}
+use Rattle.book.specs.layouts.Entries.{entryOf, bytesOf}
+use Rattle.book.specs.layouts.Reading.{entryAt, reading}
+use Rattle.book.specs.layouts.Writing.{writing, written}
+use Rattle.book.specs.rules.Periods.{zeros, fresh, raised, sideTotal, holds, leaves, amounted, withNotice, withReceipt, withSettlement, latePays, withLateReceipt, changed}
+use Rattle.book.specs.rules.State.{heldIn, made, find, arrearsBefore, earlierArrears, replaced, removed, added}
+use Rattle.book.specs.rules.Refusals.{receivable}
+use Rattle.book.specs.rules.Step.{stored, payoutWords, accepted, step}
+use Rattle.exact.specs.Rows.{sum, largest, table, filled, cells}
+use Rattle.exact.specs.Division.{ceilDiv}
+use Rattle.exact.specs.Energy.{energyCents}
+use Rattle.settlement.specs.Month.{overTiers}
+use Rattle.settlement.specs.Notice.{gives, shortfall, othersTier5, retention, payable, fullClaim}
+use Rattle.settlement.specs.Claims.{unpaid, setOff, arrears, claim}
+use Rattle.settlement.specs.Tiers.{share, leftFor, tierShare, met}
+use Rattle.settlement.specs.Rounds.{weight, loss, round, run, spread}
+use Rattle.settlement.specs.Settling.{available, revised, scaledAbove, scaledBelow, deficit, spent, rounds, paid, held}
+use Rattle.settlement.specs.Late.{fill, shortage, latePayment}
+
+field-limits : FieldLimits
+unfolding stateAfter zeros fresh raised sideTotal leaves amounted withNotice withReceipt changed made find arrearsBefore earlierArrears replaced added receivable stored payoutWords accepted step sum largest table filled cells ceilDiv energyCents overTiers gives shortfall othersTier5 retention payable fullClaim
+field-limits = record {
+  participant-energy = refl;
+  participant-amount = refl;
+  participant-receipt = refl;
+  side-energy = refl;
+  side-amount = refl;
+  tier-owing-by = refl;
+  first-tier-owing-to = refl;
+  last-tier-owing-to = refl;
+  quantity = refl;
+  price = refl;
+  quantity-and-price = refl;
+  most-energy-cents = refl;
+  least-cents-amount = refl;
+  most-cents-amount = refl;
+  least-cents-receipt = refl;
+  most-cents-receipt = refl;
+}
+
+byte-limits : ByteLimits
+unfolding valueAt bytes fieldsAt fieldBytes entryOf bytesOf entryAt reading writing written
+byte-limits = record {
+  opening = record { read = refl; read-short = refl; wrote = refl; wrote-bytes = refl; no-room = refl; no-room-bytes = refl };
+  energy = record { read = refl; read-short = refl; wrote = refl; wrote-bytes = refl; no-room = refl; no-room-bytes = refl };
+  amount = record { read = refl; read-short = refl; wrote = refl; wrote-bytes = refl; no-room = refl; no-room-bytes = refl };
+  notice = record { read = refl; read-short = refl; wrote = refl; wrote-bytes = refl; no-room = refl; no-room-bytes = refl };
+  receipt = record { read = refl; read-short = refl; wrote = refl; wrote-bytes = refl; no-room = refl; no-room-bytes = refl };
+  settle = record { read = refl; read-short = refl; wrote = refl; wrote-bytes = refl; no-room = refl; no-room-bytes = refl };
+  no-byte = refl;
+  last-place = refl;
+  at-end = refl;
+  first-kind = (refl, refl);
+  last-kind = (refl, refl);
+}
+
+book-limits : BookLimits
+unfolding stateAfter zeros fresh raised sideTotal holds leaves amounted withNotice withReceipt withSettlement latePays withLateReceipt changed heldIn made find arrearsBefore earlierArrears replaced removed added receivable stored payoutWords accepted step sum largest table filled cells ceilDiv energyCents overTiers gives shortfall othersTier5 retention payable fullClaim unpaid setOff arrears claim share leftFor tierShare met weight loss round run spread available revised scaledAbove scaledBelow deficit spent rounds paid held fill shortage latePayment
+book-limits = record {
+  least-n = (refl, refl);
+  most-n = (refl, refl);
+  words-1 = (refl, refl);
+  words-64 = (refl, refl);
+  first-period = refl;
+  next-period = refl;
+  twelve-periods = (refl, refl);
+  participant-energy = refl;
+  participant-amount = refl;
+  participant-receipt = refl;
+  total-owing-by = refl;
+  energy-owing-by = (refl, refl);
+  total-owing-to = refl;
+  energy-owing-to = (refl, refl);
+  both-full = refl;
+  equal-sides = refl;
+  less-owing-to = refl;
+  more-owing-to = refl;
+  payable = refl;
+  payable-left = refl;
+  arrears = refl;
+  arrears-left = refl;
+  earlier-arrears = (refl, refl);
+}
+
+pub limits : Limits
+limits = record { fields = field-limits; bytes = byte-limits; sizes = book-limits }

@@ -1,0 +1,10 @@
+pub mod LogLaws
+pub mod Tracking
+pub mod LateTracking
+pub mod EntryTracks
+pub mod Reckoned
+pub mod Invariant
+pub mod Opening
+pub mod Naming
+pub mod Histories
+pub mod Demand3

@@ -1,0 +1,64 @@
+-- Every accepted entry leaves its period with what the log then comes to, and every late receipt meets tiers in order.
+use Prim.Native.Nat.{ℕ, _<_}
+use mathlib.Core.Path.{_≡_, refl, sym, subst}
+use mathlib.Core.Bool.{Bool, true, false, true≢false, false≢true}
+use mathlib.Core.List.{List}
+use mathlib.Core.Logic.{⊎-elim}
+use native.Mathlib.Omega.{arith}
+use Rattle.exact.specs.Rows.{places}
+use Rattle.book.specs.Checks.{refusal}
+use Rattle.book.specs.layouts.Allowed.{allowed}
+use Rattle.book.specs.rules.Kinds.{isOpen, isAmount, isReceipt, addition}
+use Rattle.book.specs.rules.Periods.{zeros, Change, withAddition, changed}
+use Rattle.book.specs.rules.Refusals.{amountChecks, periodChecks}
+use Rattle.book.specs.rules.Valid.{Sound}
+use Rattle.book.specs.history.Log.{Account}
+use Rattle.book.specs.history.Demand3.{TiersInOrder}
+use Rattle.book.specs.declared.entries.Entry.{Entry}
+use Rattle.book.specs.declared.entries.Entry.the-variants.{Open, Energy, Amount, Notice, Receipt, Settle}
+use Rattle.book.specs.declared.Period.{Period}
+use Rattle.book.proofs.rules.Passing.{amount-passes, notice-passes, receipt-passes, settle-passes}
+use Rattle.book.proofs.rules.AdditionLaws.{amount-other, amount-within}
+use Rattle.book.proofs.rules.EntryChanges.{changed-receipt, changed-late}
+use Rattle.book.proofs.history.Tracking.{Staged, Tracks, with-entry, Paid, track-notice, track-amount, track-receipt}
+use Rattle.book.proofs.history.LateTracking.{track-settle, track-late, late-in-order}
+
+module _ (n : ℕ) (p : Period) (s : Sound n p) (a : Account) (t : Tracks n p a) (words : List ℕ) where
+  adds : (e : Entry) → isAmount e ≡ true → allowed e ≡ true → refusal (amountChecks n p (addition e)) ≡ 0
+      → Paid n (zeros places) words → Tracks n (withAddition p (addition e)) (with-entry e words a)
+  adds e q l z w =
+      let d = addition e in
+      let o = amount-other e q in
+      track-amount n p s a t words w e (d .participant) (d .cents) (d .side) (d .tier) (amount-within e q l .placed) (amount-passes n p d z)
+      (record { by = λ j. rw q; to = λ u j. rw q; no-receipt = λ j. rw (o .not-receipt); no-settle = o .not-settle })
+
+  pub entry-tracks : (e : Entry) (barred : Bool) → isOpen e ≡ false → allowed e ≡ true → refusal (periodChecks n barred e p) ≡ 0
+      → Paid n (changed n e p .pays) words → Tracks n (changed n e p .period) (with-entry e words a)
+  unfolding changed
+  entry-tracks (Open k) barred o l e w = absurd (true≢false o)
+  entry-tracks (Energy k i side quantity price) barred o l e w = adds (Energy k i side quantity price) refl l e w
+  entry-tracks (Amount k i side tier cents) barred o l e w = adds (Amount k i side tier cents) refl l e w
+  entry-tracks (Notice k) barred o l e w = track-notice n p s a t words w k (notice-passes n p e .stage)
+  entry-tracks (Receipt k i cents) barred o l e w =
+      let f = receipt-passes n p barred i cents e in
+      ⊎-elim
+      (λ q. subst (λ (c : Change). Tracks n (c .period) (with-entry (Receipt k i cents) words a)) (sym (changed-receipt n p k i cents q))
+      (track-receipt n p s a t words (subst (λ (c : Change). Paid n (c .pays) words) (changed-receipt n p k i cents q) w) k i cents q (f .member)))
+      (λ q. subst (λ (c : Change). Tracks n (c .period) (with-entry (Receipt k i cents) words a)) (sym (changed-late n p k i cents q))
+      (track-late n p s a t words k i cents q f (subst (λ (c : Change). Paid n (c .pays) words) (changed-late n p k i cents q) w)))
+      (f .stage)
+  entry-tracks (Settle k) barred o l e w = track-settle n p s a t words k (settle-passes p e) w
+
+  pub entry-in-order : (e : Entry) (barred : Bool) → refusal (periodChecks n barred e p) ≡ 0 → Paid n (changed n e p .pays) words
+      → isReceipt e ≡ true → 0 < a .settlements → TiersInOrder n a (with-entry e words a)
+  entry-in-order (Open k) barred e w r x = absurd (false≢true r)
+  entry-in-order (Energy k i side quantity price) barred e w r x = absurd (false≢true r)
+  entry-in-order (Amount k i side tier cents) barred e w r x = absurd (false≢true r)
+  entry-in-order (Notice k) barred e w r x = absurd (false≢true r)
+  entry-in-order (Receipt k i cents) barred e w r x =
+      let f = receipt-passes n p barred i cents e in
+      ⊎-elim
+      (λ q. absurd (omega (arith, x, subst (Staged n p a) q (t .staged) .unsettled)))
+      (λ q. late-in-order n p s a t words k i cents q f (subst (λ (c : Change). Paid n (c .pays) words) (changed-late n p k i cents q) w))
+      (f .stage)
+  entry-in-order (Settle k) barred e w r x = absurd (false≢true r)

@@ -1,0 +1,5 @@
+pub mod FieldLaws
+pub mod EntryLaws
+pub mod Outcomes
+pub mod RoundTrips
+pub mod FeedLaws

@@ -1,0 +1,31 @@
+use borrow.Author.Needs.{needs}
+use mathlib.Core.Path.{sym, _∙_}
+use borrow.Author.Tests.{lt-ltb, le-ltb, lt-leb, le-leb, not-true, not-false}
+use Rattle.book.proofs.refusals.amount_answer.Statement.{statement}
+use Rattle.book.proofs.refusals.amount_answer.Tie as tie
+
+returns : tie.Need-returns
+returns c = simp (le-leb _ _ (c .if1 .taken))
+
+is-opened-requires : tie.Need-is-opened-requires
+is-opened-requires c κs = search needs
+
+returns-2 : tie.Need-returns-2
+returns-2 c = simp (lt-leb _ _ (c .before .before .if1 .left), sym (c .before .is-opened .ensures) ∙ not-true _ (c .if2 .taken))
+
+add-if3 : tie.Need-add-if3
+add-if3 c = search needs
+
+returns-3 : tie.Need-returns-3
+returns-3 c =
+    let b = c .before in
+    simp (lt-leb _ _ (b .before .before .if1 .left), sym (b .before .is-opened .ensures) ∙ not-false _ (b .if2 .left), lt-ltb _ _ (c .if3 .taken))
+
+returns-4 : tie.Need-returns-4
+returns-4 c =
+    let b = c .before in
+    simp (lt-leb _ _ (b .before .before .if1 .left), sym (b .before .is-opened .ensures) ∙ not-false _ (b .if2 .left), le-ltb _ _ (c .if3 .left))
+
+pub amount-answer-spec : {M : Type 1} → statement M
+amount-answer-spec =
+    tie.close (tie.spec returns is-opened-requires returns-2 add-if3 returns-3 returns-4)

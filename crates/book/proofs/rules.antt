@@ -1,0 +1,11 @@
+pub mod CheckLaws
+pub mod KindLaws
+pub mod AdditionLaws
+pub mod CellLaws
+pub mod ListLaws
+pub mod Passing
+pub mod StepLaws
+pub mod ChangeLaws
+pub mod SettlementLaws
+pub mod EntryChanges
+pub mod ValidLaws

@@ -1,0 +1,185 @@
+-- A book just made is valid, every entry leaves a valid book, a refused one leaves it as it was.
+use Prim.Native.Nat.{ℕ, zero, suc, _+_, _-_, _*_, _≤_, _<_}
+use mathlib.Core.Path.{_≡_, refl, sym, ap, subst, _∙_}
+use mathlib.Core.Bool.{Bool, true, false, true≢false}
+use mathlib.Core.List.{List, [], _∷_, _++_}
+use mathlib.Core.Logic.{_⊎_, inl, inr}
+use native.Mathlib.Omega.{arith}
+use borrow.Author.Tests.{eqb-true, eqb-false, ltb-false}
+use lib.Dec.{eqb}
+use lib.ListN.{length, take, drop, replicate, length-append}
+use lib.Seq.{take-append-seam}
+use Rattle.exact.specs.Rows.{places, at, sum}
+use Rattle.exact.proofs.Cases.{cases, cases-eq}
+use Rattle.exact.proofs.RowLaws.{sum-zero}
+use Rattle.settlement.specs.Month.{tiers, overTiers, tierAt}
+use Rattle.settlement.specs.Settling.{held}
+use Rattle.book.specs.Checks.{refusal}
+use Rattle.book.specs.rules.Kinds.{periodOf, isOpen, isSettle, receiptCents}
+use Rattle.book.specs.rules.Periods.{isSettled, zeros, holds, sideTotal, fresh, leaves, Change, changed, withLateReceipt}
+use Rattle.book.specs.rules.State.{State, view, pack, mostPeriods, Making, makingChecks, made, find, periodAt, replaced, removed, added}
+use Rattle.book.specs.rules.Refusals.{Input, Entered, checks}
+use Rattle.book.specs.rules.Step.{Outcome, stored, accepted, step, reply}
+use Rattle.book.specs.rules.Valid.{All, InBook, SoundState, Valid, StaysValid, RefusalChangesNothing, RoundsOfSettlements}
+use Rattle.book.specs.declared.entries.Entry.{Entry}
+use Rattle.book.specs.declared.entries.Entry.the-variants.{Open, Energy, Amount, Notice, Receipt, Settle}
+use Rattle.book.specs.declared.Period.{Period}
+use Rattle.book.proofs.rules.CheckLaws.{all-pass}
+use Rattle.book.proofs.rules.CellLaws.{zeros-length, zeros-at, zeros-over}
+use Rattle.book.proofs.rules.ChangeLaws.{Changes, no-pays}
+use Rattle.book.proofs.rules.EntryChanges.{entry-changes}
+use Rattle.book.proofs.rules.ListLaws.{all-join, all-left, all-right, find-split}
+use Rattle.book.proofs.rules.StepLaws.{Opens, Names, enters, by-kind, step-accepted, step-refused, accepted-opens, accepted-names, step-answer}
+
+-- a period just opened
+pub fresh-in-book : (n k : ℕ) → n ≤ places → InBook n (fresh k)
+unfolding fresh leaves sideTotal
+fresh-in-book n k few = record {
+  sound = record {
+    totals-size = refl;
+    by-size = zeros-length places;
+    to-size = zeros-length (tiers * places);
+    received-size = zeros-length places;
+    arrears-size = zeros-length places;
+    kept = kept;
+    bounded = record { few = few; by-total = omega (arith, no-pays n); to-total = omega (arith, none-to) };
+    at-stage = record { nothing-received = λ i _. zeros-at places i; nothing-paid = λ i _. zeros-at places i };
+  };
+  stays = refl;
+}
+  where
+    none-to : sum (overTiers (tierAt (zeros (tiers * places)))) n ≡ 0
+    none-to = sum-zero (overTiers (tierAt (zeros (tiers * places)))) n (λ i _. zeros-over (tiers * places) i)
+
+    kept : (side : ℕ) → side < 2 → at (0 ∷ 0 ∷ []) side ≡ sideTotal n (fresh k) side
+    kept zero l = sym (no-pays n)
+    kept (suc zero) l = sym none-to
+    kept (suc (suc side)) l = absurd (omega arith)
+
+pub fresh-holds : (n k : ℕ) → holds n (fresh k) ≡ 0
+unfolding fresh holds held
+fresh-holds n k = omega (arith, no-pays n)
+
+-- the period that an accepted entry names
+module _ (s : State) (x : Input) (f : SoundState s) (i : Entered s x) (o : Names s x) where
+  abbrev j : ℕ
+  j = find (periodOf (x .entry)) (s .periods)
+
+  abbrev pub named : Period
+  named = periodAt (periodOf (x .entry)) (s .periods)
+
+  abbrev pub older : List Period
+  older = take (find (periodOf (x .entry)) (s .periods)) (s .periods)
+
+  abbrev pub younger : List Period
+  younger = drop (suc (find (periodOf (x .entry)) (s .periods))) (s .periods)
+
+  split : All (InBook (s .n)) (older ++ named ∷ younger)
+  split = subst (All (InBook (s .n))) (find-split (periodOf (x .entry)) (s .periods) (o .found)) (f .each)
+
+  pub named-in-book : InBook (s .n) named
+  named-in-book = all-right (InBook (s .n)) older (named ∷ younger) split .0
+
+  pub named-changes : Changes (s .n) (receiptCents (x .entry)) named (changed (s .n) (x .entry) named)
+  named-changes = entry-changes (s .n) named (named-in-book .sound) (x .entry) _ (o .not-open) (i .fields) (o .passed)
+
+  sizes : length (s .periods) ≡ length older + suc (length younger)
+  sizes = ap length (find-split (periodOf (x .entry)) (s .periods) (o .found)) ∙ length-append older (named ∷ younger)
+
+  pub moved-fit : SoundState (stored s (find (periodOf (x .entry)) (s .periods)) (changed (s .n) (x .entry) (periodAt (periodOf (x .entry)) (s .periods)) .period))
+  unfolding stored replaced removed
+  moved-fit =
+      let p′ = changed (s .n) (x .entry) named .period in
+      let left = all-left (InBook (s .n)) older (named ∷ younger) split in
+      let right = all-right (InBook (s .n)) older (named ∷ younger) split .1 in
+      cases SoundState (leaves (s .n) p′)
+      (λ _. record {
+        many = f .many;
+        few = omega (arith, f .few, sizes, length-append older younger);
+        each = all-join (InBook (s .n)) older younger left right;
+      })
+      (λ q. record {
+        many = f .many;
+        few = omega (arith, f .few, sizes, length-append older (p′ ∷ younger));
+        each = all-join (InBook (s .n)) older (p′ ∷ younger) left (record { sound = named-changes .sound; stays = q }, right);
+      })
+
+module _ (s : State) (x : Input) (f : SoundState s) where
+  opened-fit : Opens s x → SoundState (added s (fresh (periodOf (x .entry))))
+  unfolding added
+  opened-fit o =
+      let p = fresh (periodOf (x .entry)) in
+      record {
+        many = f .many;
+        few = omega (arith, length-append (s .periods) (p ∷ []), o .room);
+        each = all-join (InBook (s .n)) (s .periods) (p ∷ []) (f .each) (fresh-in-book (s .n) (periodOf (x .entry)) (f .many), tt);
+      }
+
+  pub step-fit : SoundState (step s x .state)
+  step-fit = go (eqb (refusal (checks s x)) 0) refl
+    where
+      taken : Entered s x → Opens s x ⊎ Names s x → refusal (checks s x) ≡ 0 → SoundState (step s x .state)
+      taken i (inl o) e = rw (step-accepted s x e, accepted-opens s x o) (opened-fit o)
+      taken i (inr o) e = rw (step-accepted s x e, accepted-names s x o) (moved-fit s x f i o)
+
+      go : (t : Bool) → eqb (refusal (checks s x)) 0 ≡ t → SoundState (step s x .state)
+      go true q =
+          let e = eqb-true (refusal (checks s x)) 0 q in
+          let i = enters s x e in
+          taken (i .0) (by-kind s x (i .1)) e
+      go false q = rw (step-refused s x (eqb-false (refusal (checks s x)) 0 q)) f
+
+-- the record of a state stands for that state
+pub view-pack : (s : State) → view (pack s) ≡ s
+unfolding pack
+view-pack s = λ z. record {
+  n = s .n;
+  highest = s .highest;
+  periods = take-append-seam (s .periods) (replicate (mostPeriods - length (s .periods)) (fresh 0)) z;
+}
+
+pub pack-valid : (s : State) → SoundState s → Valid (pack s)
+pack-valid s f = record { packed = ap pack (sym (view-pack s)); fit = subst SoundState (sym (view-pack s)) f }
+
+pub made-fit : (m : Making) → SoundState (made m .state)
+unfolding made
+made-fit m = record {
+  many = cases-eq (λ z. z ≤ places) (refusal (makingChecks m)) 0
+      (λ e. ltb-false places (m .n) (all-pass (makingChecks m) refl e .1 .0))
+      (λ _. omega arith);
+  few = omega arith;
+  each = tt;
+}
+
+pub stays-valid : StaysValid
+unfolding reply
+stays-valid = record {
+  first = λ m. pack-valid (made m .state) (made-fit m);
+  next = λ b x v. pack-valid (step (view b) x .state) (step-fit (view b) x (v .fit));
+}
+
+pub refusal-changes-nothing : RefusalChangesNothing
+unfolding reply
+refusal-changes-nothing b x v ne =
+    let e = step-refused (view b) x (λ q. ne (step-answer (view b) x ∙ q)) in
+    (ap (λ (o : Outcome). pack (o .state)) e ∙ sym (v .packed), ap (λ (o : Outcome). o .words) e)
+
+changed-rounds : (n : ℕ) (e : Entry) (p : Period) → isSettle e ≡ false → changed n e p .rounds ≡ 0
+unfolding changed withLateReceipt
+changed-rounds n (Open k) p q = refl
+changed-rounds n (Energy k i side quantity price) p q = refl
+changed-rounds n (Amount k i side tier cents) p q = refl
+changed-rounds n (Notice k) p q = refl
+changed-rounds n (Receipt k i cents) p q = cases (λ (c : Change). c .rounds ≡ 0) (isSettled (p .stage)) (λ _. refl) (λ _. refl)
+changed-rounds n (Settle k) p q = absurd (true≢false q)
+
+accepted-rounds : (s : State) (x : Input) → isSettle (x .entry) ≡ false → accepted s x .rounds ≡ 0
+unfolding accepted
+accepted-rounds s x q = cases (λ (o : Outcome). o .rounds ≡ 0) (isOpen (x .entry)) (λ _. refl) (λ _. changed-rounds (s .n) (x .entry) _ q)
+
+pub rounds-of-settlements : RoundsOfSettlements
+unfolding reply step
+rounds-of-settlements = record {
+  refused = λ b x ne. ap (λ (o : Outcome). o .rounds) (step-refused (view b) x (λ q. ne (step-answer (view b) x ∙ q)));
+  others = λ b x q. cases (λ (o : Outcome). o .rounds ≡ 0) (eqb (refusal (checks (view b) x)) 0) (λ _. accepted-rounds (view b) x q) (λ _. refl);
+}

@@ -1,0 +1,8 @@
+pub mod RunLaws
+pub mod RunValid
+pub mod RunTurns
+pub mod PostingSteps
+pub mod PostingTurns
+pub mod PostingLaws
+pub mod RunReplies
+pub mod RunDemand3

@@ -1,0 +1,143 @@
+-- 01's limits in 01's order, each by an example at the limit and one outside it.
+-- The numbers are 01's own and not those of the definitions, so that a limit which code and definitions share wrongly is found.
+use Prim.Native.Nat.{ℕ, _-_}
+use mathlib.Core.Path.{_≡_}
+use mathlib.Core.List.{List, [], _∷_, _++_}
+use lib.ListN.{length, take, replicate}
+use Rattle.exact.specs.Energy.{energyCents}
+use Rattle.book.specs.layouts.Reading.{reading}
+use Rattle.book.specs.layouts.Writing.{writing, written}
+use Rattle.book.specs.rules.State.{State, made}
+use Rattle.book.specs.rules.Step.{step}
+use Rattle.book.specs.examples.Months.{stateAfter, book, lent, noticeA, hundred, openings}
+use Rattle.book.specs.declared.entries.Entry.{Entry}
+use Rattle.book.specs.declared.entries.Entry.the-variants.{Open, Energy, Amount, Notice, Receipt, Settle}
+
+-- the answers to entries, each of them given to the same book
+abbrev pub answersOf : State → List ℕ → List Entry → List ℕ
+answersOf s words [] = []
+answersOf s words (e ∷ l) = step s (record { entry = e; words = words }) .answer ∷ answersOf s words l
+
+-- the same after others were applied, in a book of 64 and in one of three
+abbrev pub of64 : List Entry → List Entry → List ℕ
+of64 first l = answersOf (stateAfter (book 64) (replicate 64 0) first) (replicate 64 0) l
+
+abbrev pub of3 : List Entry → List Entry → List ℕ
+of3 first l = answersOf (stateAfter (book 3) lent first) lent l
+
+abbrev pub opened : List Entry
+opened = Open 1 ∷ []
+
+-- the most cents are payable by the last of 64
+abbrev pub mostPayable : List Entry
+mostPayable = Open 1 ∷ Amount 1 63 0 0 10_000_000_000_000 ∷ Amount 1 0 1 5 10_000_000_000_000 ∷ Notice 1 ∷ []
+
+-- owing by 0, and owing to 1 in two tiers
+abbrev pub sides : ℕ → ℕ → List Entry
+sides by to = Open 1 ∷ Amount 1 0 0 0 by ∷ Amount 1 1 1 1 1 ∷ Amount 1 1 1 5 to ∷ []
+
+-- payer 0 pays so much of 100 in period 1, and payer 1 none of 100, so that the settled period stays in the book
+abbrev pub settledWith : ℕ → List Entry
+settledWith cents =
+    Open 1 ∷ Amount 1 0 0 0 100 ∷ Amount 1 1 0 0 100 ∷ Amount 1 2 1 5 200 ∷ Notice 1 ∷ Receipt 1 0 cents ∷ Settle 1 ∷ hundred 2
+
+-- month A settled, where 0 has paid 300 of 600
+abbrev pub settledA : List Entry
+settledA = noticeA ++ (Receipt 7 0 300 ∷ Receipt 7 2 334 ∷ Settle 7 ∷ [])
+
+-- the bytes of the largest period, quantity, price and cents
+abbrev pub periodBytes : List ℕ
+periodBytes = 255 ∷ 255 ∷ 255 ∷ 255 ∷ []
+
+abbrev pub quantityBytes : List ℕ
+quantityBytes = 0 ∷ 225 ∷ 245 ∷ 5 ∷ []
+
+abbrev pub priceBytes : List ℕ
+priceBytes = 128 ∷ 150 ∷ 152 ∷ 0 ∷ []
+
+abbrev pub centsBytes : List ℕ
+centsBytes = 0 ∷ 160 ∷ 114 ∷ 78 ∷ 24 ∷ 9 ∷ 0 ∷ 0 ∷ []
+
+-- s has just the bytes of e: it is read and written with these, and with one fewer it is neither
+pub record JustBytes (s : List ℕ) (e : Entry) : Type 0 where
+  pub read : reading s 0 ≡ record { answer = 0; place = length s; entry = e ∷ [] }
+  pub read-short : reading (take (length s - 1) s) 0 ≡ record { answer = 1; place = 0; entry = [] }
+  pub wrote : writing e (length s) ≡ record { answer = 0; count = length s }
+  pub wrote-bytes : written e (replicate (length s) 9) ≡ s
+  pub no-room : writing e (length s - 1) ≡ record { answer = 5; count = 0 }
+  pub no-room-bytes : written e (replicate (length s - 1) 9) ≡ replicate (length s - 1) 9
+
+-- the values of fields (01, Entries): a value outside is answered 3
+pub record FieldLimits : Type 0 where
+  pub participant-energy : of64 opened (Energy 1 63 0 1 1 ∷ Energy 1 64 0 1 1 ∷ []) ≡ 0 ∷ 3 ∷ []
+  pub participant-amount : of64 opened (Amount 1 63 0 0 1 ∷ Amount 1 64 0 0 1 ∷ []) ≡ 0 ∷ 3 ∷ []
+  pub participant-receipt : of64 mostPayable (Receipt 1 63 1 ∷ Receipt 1 64 1 ∷ []) ≡ 0 ∷ 3 ∷ []
+  pub side-energy : of64 opened (Energy 1 0 0 1 1 ∷ Energy 1 0 1 1 1 ∷ Energy 1 0 2 1 1 ∷ []) ≡ 0 ∷ 0 ∷ 3 ∷ []
+  pub side-amount : of64 opened (Amount 1 0 0 0 1 ∷ Amount 1 0 1 1 1 ∷ Amount 1 0 2 1 1 ∷ []) ≡ 0 ∷ 0 ∷ 3 ∷ []
+  pub tier-owing-by : of64 opened (Amount 1 0 0 0 1 ∷ Amount 1 0 0 1 1 ∷ []) ≡ 0 ∷ 3 ∷ []
+  pub first-tier-owing-to : of64 opened (Amount 1 0 1 1 1 ∷ Amount 1 0 1 0 1 ∷ []) ≡ 0 ∷ 3 ∷ []
+  pub last-tier-owing-to : of64 opened (Amount 1 0 1 5 1 ∷ Amount 1 0 1 6 1 ∷ []) ≡ 0 ∷ 3 ∷ []
+  pub quantity : of64 opened (Energy 1 0 0 100_000_000 1 ∷ Energy 1 0 0 100_000_001 1 ∷ []) ≡ 0 ∷ 3 ∷ []
+  pub price : of64 opened (Energy 1 0 0 1 10_000_000 ∷ Energy 1 0 0 1 10_000_001 ∷ []) ≡ 0 ∷ 3 ∷ []
+  pub quantity-and-price : of64 opened (Energy 1 0 1 100_000_000 10_000_000 ∷ []) ≡ 0 ∷ []
+  pub most-energy-cents : energyCents 100_000_000 10_000_000 ≡ 1_150_000_000_000
+  pub least-cents-amount : of64 opened (Amount 1 0 0 0 1 ∷ Amount 1 0 0 0 0 ∷ []) ≡ 0 ∷ 3 ∷ []
+  pub most-cents-amount : of64 opened (Amount 1 0 1 5 10_000_000_000_000 ∷ Amount 1 0 1 5 10_000_000_000_001 ∷ []) ≡ 0 ∷ 3 ∷ []
+  pub least-cents-receipt : of64 mostPayable (Receipt 1 63 1 ∷ Receipt 1 63 0 ∷ []) ≡ 0 ∷ 3 ∷ []
+  pub most-cents-receipt : of64 mostPayable (Receipt 1 63 10_000_000_000_000 ∷ Receipt 1 63 10_000_000_000_001 ∷ []) ≡ 0 ∷ 3 ∷ []
+
+-- reading and writing (01, Entries, and Refused, numbers 1, 2 and 5), with each field at its largest
+pub record ByteLimits : Type 0 where
+  pub opening : JustBytes (1 ∷ periodBytes) (Open 4_294_967_295)
+  pub energy : JustBytes (2 ∷ periodBytes ++ 63 ∷ 1 ∷ quantityBytes ++ priceBytes) (Energy 4_294_967_295 63 1 100_000_000 10_000_000)
+  pub amount : JustBytes (3 ∷ periodBytes ++ 63 ∷ 1 ∷ 5 ∷ centsBytes) (Amount 4_294_967_295 63 1 5 10_000_000_000_000)
+  pub notice : JustBytes (4 ∷ periodBytes) (Notice 4_294_967_295)
+  pub receipt : JustBytes (5 ∷ periodBytes ++ 63 ∷ centsBytes) (Receipt 4_294_967_295 63 10_000_000_000_000)
+  pub settle : JustBytes (6 ∷ periodBytes) (Settle 4_294_967_295)
+  -- no byte, and no byte at the place
+  pub no-byte : reading [] 0 ≡ record { answer = 1; place = 0; entry = [] }
+  pub last-place : reading (9 ∷ 1 ∷ periodBytes) 1 ≡ record { answer = 0; place = 6; entry = Open 4_294_967_295 ∷ [] }
+  pub at-end : reading (1 ∷ periodBytes) 5 ≡ record { answer = 1; place = 5; entry = [] }
+  -- kinds 1 and 6 are known by their first byte alone, and kinds 0 and 7 are not
+  pub first-kind : (reading (1 ∷ []) 0 .answer ≡ 1) × (reading (0 ∷ []) 0 ≡ record { answer = 2; place = 0; entry = [] })
+  pub last-kind : (reading (6 ∷ []) 0 .answer ≡ 1) × (reading (7 ∷ []) 0 ≡ record { answer = 2; place = 0; entry = [] })
+
+-- sizes and sums of the book (01, The month's sums, and Refused, numbers 4 to 7 and 10 to 14)
+pub record BookLimits : Type 0 where
+  -- 4: n is 1 to 64
+  pub least-n : (made (record { n = 1 }) .answer ≡ 0) × (made (record { n = 0 }) .answer ≡ 4)
+  pub most-n : (made (record { n = 64 }) .answer ≡ 0) × (made (record { n = 65 }) .answer ≡ 4)
+  -- 5: at least n payout words
+  pub words-1 : (answersOf (book 1) (9 ∷ []) opened ≡ 0 ∷ []) × (answersOf (book 1) [] opened ≡ 5 ∷ [])
+  pub words-64 : (answersOf (book 64) (replicate 64 9) opened ≡ 0 ∷ []) × (answersOf (book 64) (replicate 63 9) opened ≡ 5 ∷ [])
+  -- 6: above the highest, which is 0 at first; the largest number opens
+  pub first-period : of3 [] (Open 1 ∷ Open 0 ∷ Open 4_294_967_295 ∷ []) ≡ 0 ∷ 6 ∷ 0 ∷ []
+  pub next-period : of3 (Open 8 ∷ []) (Open 9 ∷ Open 8 ∷ []) ≡ 0 ∷ 6 ∷ []
+  -- 7: twelve periods
+  pub twelve-periods : (of3 (openings 11) (Open 12 ∷ []) ≡ 0 ∷ []) × (of3 (openings 12) (Open 13 ∷ []) ≡ 7 ∷ [])
+  -- 12: participants are 0 to n − 1
+  pub participant-energy : of3 opened (Energy 1 2 0 1 1 ∷ Energy 1 3 0 1 1 ∷ []) ≡ 0 ∷ 12 ∷ []
+  pub participant-amount : of3 opened (Amount 1 2 0 0 1 ∷ Amount 1 3 0 0 1 ∷ []) ≡ 0 ∷ 12 ∷ []
+  pub participant-receipt : of3 noticeA (Receipt 7 2 1 ∷ Receipt 7 3 1 ∷ []) ≡ 0 ∷ 12 ∷ []
+  -- 11: each side's total by itself, over all participants and tiers; quantity 100 at price 100 comes to 12 cents
+  pub total-owing-by : of3 (sides 9_999_999_999_999 1) (Amount 1 2 0 0 1 ∷ Amount 1 2 0 0 2 ∷ []) ≡ 0 ∷ 11 ∷ []
+  pub energy-owing-by : (of3 (sides 9_999_999_999_988 1) (Energy 1 2 0 100 100 ∷ []) ≡ 0 ∷ []) × (of3 (sides 9_999_999_999_989 1) (Energy 1 2 0 100 100 ∷ []) ≡ 11 ∷ [])
+  pub total-owing-to : of3 (sides 1 9_999_999_999_998) (Amount 1 2 1 3 1 ∷ Amount 1 2 1 3 2 ∷ []) ≡ 0 ∷ 11 ∷ []
+  pub energy-owing-to : (of3 (sides 1 9_999_999_999_987) (Energy 1 2 1 100 100 ∷ []) ≡ 0 ∷ []) × (of3 (sides 1 9_999_999_999_988) (Energy 1 2 1 100 100 ∷ []) ≡ 11 ∷ [])
+  pub both-full : of3 (sides 10_000_000_000_000 9_999_999_999_999) (Amount 1 2 0 0 1 ∷ Amount 1 2 1 3 1 ∷ Notice 1 ∷ []) ≡ 11 ∷ 11 ∷ 0 ∷ []
+  -- 10: a cent between the sides
+  pub equal-sides : of3 (sides 100 99) (Notice 1 ∷ []) ≡ 0 ∷ []
+  pub less-owing-to : of3 (sides 100 98) (Notice 1 ∷ []) ≡ 10 ∷ []
+  pub more-owing-to : of3 (sides 100 100) (Notice 1 ∷ []) ≡ 10 ∷ []
+  -- 13: what is payable and not yet received, and arrears once settled
+  pub payable : of3 noticeA (Receipt 7 0 600 ∷ Receipt 7 0 601 ∷ []) ≡ 0 ∷ 13 ∷ []
+  pub payable-left : of3 (noticeA ++ (Receipt 7 0 300 ∷ [])) (Receipt 7 0 300 ∷ Receipt 7 0 301 ∷ []) ≡ 0 ∷ 13 ∷ []
+  pub arrears : of3 settledA (Receipt 7 0 300 ∷ Receipt 7 0 301 ∷ []) ≡ 0 ∷ 13 ∷ []
+  pub arrears-left : of3 (settledA ++ (Receipt 7 0 100 ∷ [])) (Receipt 7 0 200 ∷ Receipt 7 0 201 ∷ []) ≡ 0 ∷ 13 ∷ []
+  -- 14: a cent of earlier arrears
+  pub earlier-arrears : (of3 (settledWith 100) (Receipt 2 0 1 ∷ []) ≡ 0 ∷ []) × (of3 (settledWith 99) (Receipt 2 0 1 ∷ []) ≡ 14 ∷ [])
+
+pub record Limits : Type 0 where
+  pub fields : FieldLimits
+  pub bytes : ByteLimits
+  pub sizes : BookLimits

@@ -1,0 +1,131 @@
+-- 01's listing of month A, month B and the other examples without a star (01, Reckoned examples), from `step`.
+use Prim.Native.Nat.{ℕ, _+_}
+use mathlib.Core.Path.{_≡_}
+use mathlib.Core.Bool.{cond}
+use mathlib.Core.List.{List, [], _∷_, _++_}
+use lib.Dec.{eqb}
+use Rattle.exact.specs.Rows.{at, sum, table}
+use Rattle.book.specs.rules.State.{State, made, heldIn}
+use Rattle.book.specs.rules.Step.{Outcome, step}
+use Rattle.book.specs.declared.entries.Entry.{Entry}
+use Rattle.book.specs.declared.entries.Entry.the-variants.{Open, Energy, Amount, Notice, Receipt, Settle}
+
+-- an entry's line: its answer, the cents it pays, the cents held after it; with the rounds and the words it leaves
+pub record Line : Type 0 where
+  pub answer : ℕ
+  pub paid : ℕ
+  pub held : ℕ
+  pub rounds : ℕ
+  pub words : List ℕ
+
+abbrev pub line : ℕ → Outcome → Line
+line n o = record {
+  answer = o .answer;
+  paid = cond (eqb (o .answer) 0) (sum (at (o .words)) n) 0;
+  held = heldIn n (o .state .periods);
+  rounds = o .rounds;
+  words = o .words;
+}
+
+-- the lines of a list of entries, each handed the same words
+unfoldable pub linesFrom : State → List ℕ → List Entry → List Line
+linesFrom s words [] = []
+linesFrom s words (e ∷ l) =
+    line (s .n) (step s (record { entry = e; words = words })) ∷ linesFrom (step s (record { entry = e; words = words }) .state) words l
+
+unfoldable pub stateAfter : State → List ℕ → List Entry → State
+stateAfter s words [] = s
+stateAfter s words (e ∷ l) = stateAfter (step s (record { entry = e; words = words }) .state) words l
+
+abbrev pub book : ℕ → State
+book n = made (record { n = n }) .state
+
+abbrev pub answers : List Line → List ℕ
+answers [] = []
+answers (x ∷ l) = x .answer ∷ answers l
+
+-- four words for a book of three
+abbrev pub lent : List ℕ
+lent = 9 ∷ 9 ∷ 9 ∷ 9 ∷ []
+
+abbrev pub noticeA : List Entry
+noticeA =
+    Open 7 ∷ Amount 7 0 0 0 600 ∷ Amount 7 2 0 0 400 ∷ Amount 7 1 1 1 100 ∷ Amount 7 1 1 5 700 ∷ Amount 7 2 1 5 200 ∷ Notice 7 ∷ []
+
+abbrev pub monthA : List Entry
+monthA = noticeA ++ (Receipt 7 0 300 ∷ Receipt 7 2 334 ∷ Settle 7 ∷ Receipt 7 0 100 ∷ Receipt 7 0 200 ∷ [])
+
+-- a line of an accepted entry that pays nothing, and of one that pays
+abbrev pub quiet : ℕ → Line
+quiet held = record { answer = 0; paid = 0; held = held; rounds = 0; words = 0 ∷ 0 ∷ 0 ∷ 9 ∷ [] }
+
+abbrev pub paying : ℕ → ℕ → ℕ → List ℕ → Line
+paying paid held rounds words = record { answer = 0; paid = paid; held = held; rounds = rounds; words = words }
+
+abbrev pub listingA : List Line
+listingA =
+    quiet 0 ∷ quiet 0 ∷ quiet 0 ∷ quiet 0 ∷ quiet 0 ∷ quiet 0 ∷ quiet 0 ∷ quiet 300 ∷ quiet 634
+    ∷ paying 633 1 0 (0 ∷ 566 ∷ 67 ∷ 9 ∷ [])
+    ∷ paying 100 1 0 (0 ∷ 78 ∷ 22 ∷ 9 ∷ [])
+    ∷ paying 201 0 0 (0 ∷ 156 ∷ 45 ∷ 9 ∷ [])
+    ∷ []
+
+-- month B, in which only 0 pays
+abbrev pub monthB : List Entry
+monthB =
+    Open 1 ∷ Amount 1 0 0 0 300 ∷ Amount 1 2 0 0 500 ∷ Amount 1 1 1 5 600 ∷ Amount 1 2 1 5 200 ∷ Notice 1 ∷ Receipt 1 0 300 ∷ Settle 1 ∷ []
+
+abbrev pub listingB : List Line
+listingB =
+    quiet 0 ∷ quiet 0 ∷ quiet 0 ∷ quiet 0 ∷ quiet 0 ∷ quiet 0 ∷ quiet 300
+    ∷ paying 300 0 1 (0 ∷ 300 ∷ 0 ∷ 9 ∷ [])
+    ∷ []
+
+-- owing by 0: 100, owing to 1: 100, in each of periods 1 to 3, and 0 has arrears in period 2
+abbrev pub hundred : ℕ → List Entry
+hundred k = Open k ∷ Amount k 0 0 0 100 ∷ Amount k 1 1 5 100 ∷ Notice k ∷ []
+
+abbrev pub inArrears : List Entry
+inArrears = hundred 1 ++ hundred 2 ++ hundred 3 ++ (Settle 2 ∷ [])
+
+-- a receipt on period 3 is barred until that on period 2, one on period 1 is not
+abbrev pub paysLater : List Entry
+paysLater = Receipt 3 0 10 ∷ Receipt 1 0 10 ∷ Receipt 2 0 100 ∷ Receipt 3 0 10 ∷ []
+
+-- n periods are opened, the first of them 1
+abbrev pub openings : ℕ → List Entry
+openings n = table (λ k. Open (k + 1)) n
+
+-- the answers to entries after others were applied
+abbrev pub answersAfter : ℕ → List Entry → List Entry → List ℕ
+answersAfter n first l = answers (linesFrom (stateAfter (book n) lent first) lent l)
+
+pub record Examples : Type 0 where
+  pub month-a : linesFrom (book 3) lent monthA ≡ listingA
+  pub gone-a : stateAfter (book 3) lent monthA .periods ≡ []
+  pub month-b : linesFrom (book 3) lent monthB ≡ listingB
+  pub empty-month : answersAfter 3 [] (Open 1 ∷ Notice 1 ∷ Settle 1 ∷ []) ≡ 0 ∷ 0 ∷ 0 ∷ []
+  pub empty-gone : stateAfter (book 3) lent (Open 1 ∷ Notice 1 ∷ Settle 1 ∷ []) .periods ≡ []
+  pub period-0 : answersAfter 3 [] (Open 0 ∷ []) ≡ 6 ∷ []
+  pub twelfth : answersAfter 3 (openings 11) (Open 12 ∷ []) ≡ 0 ∷ []
+  pub thirteenth : answersAfter 3 (openings 12) (Open 13 ∷ []) ≡ 7 ∷ []
+  pub made-64 : made (record { n = 64 }) .answer ≡ 0
+  pub made-65 : made (record { n = 65 }) .answer ≡ 4
+  pub answers-65 : answersAfter 65 [] (Open 1 ∷ Receipt 1 64 0 ∷ []) ≡ 4 ∷ 4 ∷ []
+  pub all-payable : answersAfter 3 noticeA (Receipt 7 0 600 ∷ []) ≡ 0 ∷ []
+  pub above-payable : answersAfter 3 noticeA (Receipt 7 0 601 ∷ []) ≡ 13 ∷ []
+  pub tier-5 : answersAfter 3 (Open 1 ∷ []) (Amount 1 0 1 5 1 ∷ []) ≡ 0 ∷ []
+  pub tier-6 : answersAfter 3 (Open 1 ∷ []) (Amount 1 0 1 6 1 ∷ []) ≡ 3 ∷ []
+  pub full-side : answersAfter 3 (Open 1 ∷ []) (Amount 1 0 0 0 10_000_000_000_000 ∷ Amount 1 1 0 0 1 ∷ Energy 1 1 0 0 1 ∷ []) ≡ 0 ∷ 11 ∷ 0 ∷ []
+  pub earlier-arrears : answersAfter 2 inArrears paysLater ≡ 14 ∷ 0 ∷ 0 ∷ 0 ∷ []
+  -- the earlier check in 01's order answers
+  pub five-before-three : answers (linesFrom (book 3) (9 ∷ 9 ∷ []) (Amount 1 64 0 0 1 ∷ [])) ≡ 5 ∷ []
+  pub three-before-eight : answersAfter 3 [] (Amount 1 64 0 0 1 ∷ []) ≡ 3 ∷ []
+  pub six-before-seven : answersAfter 3 (openings 12) (Open 12 ∷ []) ≡ 6 ∷ []
+  pub eight-before-twelve : answersAfter 3 [] (Amount 1 3 0 0 1 ∷ []) ≡ 8 ∷ []
+  pub twelve-before-nine : answersAfter 3 noticeA (Amount 7 3 0 0 1 ∷ []) ≡ 12 ∷ []
+  pub nine-before-eleven : answersAfter 3 noticeA (Amount 7 0 0 0 10_000_000_000_000 ∷ []) ≡ 9 ∷ []
+  pub wrong-stages : answersAfter 3 (Open 1 ∷ []) (Receipt 1 0 1 ∷ Settle 1 ∷ []) ≡ 9 ∷ 9 ∷ []
+  pub second-notice : answersAfter 3 noticeA (Notice 7 ∷ []) ≡ 9 ∷ []
+  pub unequal-sides : answersAfter 3 (Open 1 ∷ Amount 1 0 0 0 1 ∷ []) (Notice 1 ∷ []) ≡ 10 ∷ []
+  pub fourteen-before-thirteen : answersAfter 2 inArrears (Receipt 3 0 101 ∷ []) ≡ 14 ∷ []

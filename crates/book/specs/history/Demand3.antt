@@ -1,0 +1,116 @@
+-- Demand 3: one claim about a whole list of entries, from a book just made (01, The list of demand 3).
+use Prim.Native.Nat.{ℕ, _+_, _-_, _*_, _≤_, _<_}
+use mathlib.Core.Path.{_≡_}
+use mathlib.Core.Bool.{true, cond}
+use mathlib.Core.Logic.{_⊎_}
+use mathlib.Core.List.{List, [], _∷_}
+use lib.Dec.{eqb}
+use Rattle.exact.specs.Rows.{sum}
+use Rattle.settlement.specs.Month.{tiers}
+use Rattle.settlement.specs.Late.{fill, tiersOf, shortage}
+use Rattle.book.specs.rules.Kinds.{names, isReceipt}
+use Rattle.book.specs.rules.State.{pack, centsHeld, numbersIn, Making, made}
+use Rattle.book.specs.rules.Refusals.{Input}
+use Rattle.book.specs.rules.Step.{reply}
+use Rattle.book.specs.rules.Valid.{All, Valid}
+use Rattle.book.specs.history.Log.{Log, Account, account, moneyReceived, moneyPaid, payable, fullClaim, setOff, claim, arrearsAtSettlement, arrears, received, unpaidClaims, heldMoney}
+use Rattle.book.specs.declared.Book.{Book}
+
+-- the program's book, and the log of the entries that were answered 0
+pub record History : Type 0 where
+  pub book : Book
+  pub log : Log
+
+-- a book just made
+unfoldable pub begun : Making → History
+begun m = record { book = pack (made m .state); log = [] }
+
+-- one entry, applied to the book that the one before it handed back
+unfoldable pub next : History → Input → History
+next h x = record {
+  book = reply (h .book) x .book;
+  log = cond (eqb (reply (h .book) x .answer) 0) (record { entry = x .entry; words = reply (h .book) x .words } ∷ h .log) (h .log);
+}
+
+unfoldable pub after : History → List Input → History
+after h [] = h
+after h (x ∷ inputs) = after (next h x) inputs
+
+-- a number is in a list of numbers
+abbrev pub Has : ℕ → List ℕ → Type 0
+Has k [] = ⊥
+Has k (j ∷ l) = (j ≡ k) ⊎ Has k l
+
+-- each number is below those after it, so that none is there twice
+abbrev pub Rising : List ℕ → Type 0
+Rising [] = Unit {0}
+Rising (k ∷ l) = All (λ j. k < j) l × Rising l
+
+-- money held, over the periods of these numbers
+unfoldable pub moneyHeld : ℕ → Log → List ℕ → ℕ
+moneyHeld n log [] = 0
+moneyHeld n log (k ∷ l) = heldMoney n (account k log) + moneyHeld n log l
+
+-- a period is opened by an open entry that names it, and settled by a settle entry
+abbrev pub WasOpened : ℕ → Log → Type 0
+WasOpened k log = 0 < account k log .openings
+
+abbrev pub WasSettled : ℕ → Log → Type 0
+WasSettled k log = 0 < account k log .settlements
+
+module _ (n : ℕ) where
+  abbrev pub WithoutArrears : ℕ → Log → Type 0
+  WithoutArrears k log = (i : ℕ) → i < n → arrears n (account k log) i ≡ 0
+
+  -- every claim of the period is paid in full
+  abbrev pub PaidInFull : ℕ → Log → Type 0
+  PaidInFull k log = (i : ℕ) → i < n → account k log .paid i ≡ claim n (account k log) i
+
+  -- between two accounts of a period: where i has more in tier t, nobody has a shortage in a tier before t
+  abbrev pub TiersInOrder : Account → Account → Type 0
+  TiersInOrder a b =
+      (t i : ℕ) → t < tiers → i < n → fill (tiersOf (b .to) i) (a .paid i) t < fill (tiersOf (b .to) i) (b .paid i) t
+      → (s j : ℕ) → s < t → j < n → shortage (b .to) (claim n b) (b .paid) s j ≡ 0
+
+  -- so it is with every late receipt, one that follows its period's settle entry
+  abbrev pub LateInOrder : Log → Type 0
+  LateInOrder [] = Unit {0}
+  LateInOrder (x ∷ log) =
+      ((k : ℕ) → names k (x .entry) ≡ true → isReceipt (x .entry) ≡ true → WasSettled k log → TiersInOrder (account k log) (account k (x ∷ log)))
+      × LateInOrder log
+
+  -- no difference above is cut off at 0, for participant i of a settled period
+  pub record NothingCutOff (a : Account) (i : ℕ) : Type 0 where
+    pub received-le : a .before i ≤ payable n a i
+    pub set-off-le : setOff n a i ≤ fullClaim n a i
+    pub late-le : a .late i ≤ arrearsAtSettlement n a i
+    pub paid-le : a .paid i ≤ claim n a i
+
+  -- what holds after a list
+  pub record Clauses (h : History) : Type 0 where
+    -- the book is one that the program's functions take
+    pub valid : Valid (h .book)
+    -- money received is money paid and money held; the book's cents held are the money held
+    pub cents : moneyReceived (h .log) ≡ moneyPaid n (h .log) + moneyHeld n (h .log) (numbersIn (h .book))
+    pub listed : centsHeld (h .book) ≡ moneyHeld n (h .log) (numbersIn (h .book))
+    -- a settled period in the book: unpaid claims are arrears and held money, and held money is within its bound
+    pub claims : (k : ℕ) → Has k (numbersIn (h .book)) → WasSettled k (h .log)
+        → unpaidClaims n (account k (h .log)) ≡ sum (arrears n (account k (h .log))) n + heldMoney n (account k (h .log))
+    pub held-bound : (k : ℕ) → Has k (numbersIn (h .book)) → WasSettled k (h .log) → heldMoney n (account k (h .log)) ≤ 2 * (n - 1)
+    -- an opened period has left the book exactly when it is settled and has no arrears; its claims are then paid in full
+    pub left : (k : ℕ) → WasOpened k (h .log) → (Has k (numbersIn (h .book)) → ⊥) → WasSettled k (h .log) × WithoutArrears k (h .log)
+    pub leaves : (k : ℕ) → WasOpened k (h .log) → WasSettled k (h .log) → WithoutArrears k (h .log) → Has k (numbersIn (h .book)) → ⊥
+    pub paid-in-full : (k : ℕ) → WasOpened k (h .log) → (Has k (numbersIn (h .book)) → ⊥) → PaidInFull k (h .log)
+    -- a period in the book was opened; none is there twice, and none was opened or settled twice
+    pub present : (k : ℕ) → Has k (numbersIn (h .book)) → WasOpened k (h .log)
+    pub rising : Rising (numbersIn (h .book))
+    pub once : (k : ℕ) → (account k (h .log) .openings ≤ 1) × (account k (h .log) .settlements ≤ 1)
+    -- no late receipt paid a later tier while a claim in an earlier one stayed unpaid
+    pub order : LateInOrder (h .log)
+    -- no difference is cut off, also not in periods that have left
+    pub nothing-cut-off : (k : ℕ) → WasSettled k (h .log) → (i : ℕ) → i < n → NothingCutOff (account k (h .log)) i
+    pub paid-within : (k : ℕ) → sum (account k (h .log) .paid) n ≤ sum (received n (account k (h .log))) n
+
+-- a book made with anything, and any list of entries with any payout words
+abbrev pub Demand3 : Type 0
+Demand3 = (m : Making) (inputs : List Input) → Clauses (m .n) (after (begun m) inputs)

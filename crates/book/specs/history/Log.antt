@@ -1,0 +1,123 @@
+-- The accepted entries of a list, and what is reckoned from them (01, The list of demand 3).
+use Prim.Native.Nat.{ℕ, suc, _+_, _-_}
+use mathlib.Core.Bool.{Bool, true, false, cond}
+use mathlib.Core.List.{List, [], _∷_}
+use lib.Dec.{eqb}
+use Rattle.exact.specs.Rows.{at, sum}
+use Rattle.settlement.specs.Month.{Month}
+use Rattle.settlement.specs.Notice as notice
+use Rattle.settlement.specs.Claims as step1
+use Rattle.book.specs.rules.Kinds.{names, isOpen, isAmount, isReceipt, isSettle, addition, payerOf, receiptCents}
+use Rattle.book.specs.declared.entries.Entry.{Entry}
+
+-- an accepted entry, and the payout words as it left them
+pub record Accepted : Type 0 where
+  pub entry : Entry
+  pub words : List ℕ
+
+-- the accepted entries, newest first
+abbrev pub Log : Type 0
+Log = List Accepted
+
+-- c if j is i, else 0
+abbrev pub only : ℕ → ℕ → ℕ → ℕ
+only j i c = cond (eqb j i) c 0
+
+-- what an entry adds to B_i
+abbrev pub addsBy : ℕ → Entry → ℕ
+addsBy i e = cond (isAmount e) (cond (eqb (addition e .side) 0) (only (addition e .participant) i (addition e .cents)) 0) 0
+
+-- what an entry adds to O_i,t, tiers counted from 0
+abbrev pub addsTo : ℕ → ℕ → Entry → ℕ
+addsTo t i e = cond (isAmount e) (cond (eqb (addition e .side) 0) 0 (only (addition e .tier) (suc t) (only (addition e .participant) i (addition e .cents)))) 0
+
+-- the cents of a receipt from i
+abbrev pub receivedFrom : ℕ → Entry → ℕ
+receivedFrom i e = cond (isReceipt e) (only (payerOf e) i (receiptCents e)) 0
+
+abbrev pub count : Bool → ℕ
+count true = 1
+count false = 0
+
+-- what the accepted entries of one period come to: its sums, the receipts before its settle entry and the late ones,
+-- what each participant was paid, and how often it was opened and settled
+pub record Account : Type 0 where
+  pub by : ℕ → ℕ
+  pub to : ℕ → ℕ → ℕ
+  pub before : ℕ → ℕ
+  pub late : ℕ → ℕ
+  pub paid : ℕ → ℕ
+  pub openings : ℕ
+  pub settlements : ℕ
+
+unfoldable pub nothing : Account
+nothing = record { by = λ i. 0; to = λ t i. 0; before = λ i. 0; late = λ i. 0; paid = λ i. 0; openings = 0; settlements = 0 }
+
+-- one more entry of the period
+unfoldable pub entered : Accepted → Account → Account
+entered x a = record {
+  by = λ i. addsBy i (x .entry) + a .by i;
+  to = λ t i. addsTo t i (x .entry) + a .to t i;
+  before = λ i. cond (eqb (a .settlements) 0) (receivedFrom i (x .entry)) 0 + a .before i;
+  late = λ i. cond (eqb (a .settlements) 0) 0 (receivedFrom i (x .entry)) + a .late i;
+  paid = λ i. at (x .words) i + a .paid i;
+  openings = count (isOpen (x .entry)) + a .openings;
+  settlements = count (isSettle (x .entry)) + a .settlements;
+}
+
+-- the account of period k, from the entries that name it
+unfoldable pub account : ℕ → Log → Account
+account k [] = nothing
+account k (x ∷ log) = cond (names k (x .entry)) (entered x (account k log)) (account k log)
+
+-- money received is the cents of all receipts
+unfoldable pub moneyReceived : Log → ℕ
+moneyReceived [] = 0
+moneyReceived (x ∷ log) = receiptCents (x .entry) + moneyReceived log
+
+-- money paid is the sum of the first n payout words over all entries
+unfoldable pub moneyPaid : ℕ → Log → ℕ
+moneyPaid n [] = 0
+moneyPaid n (x ∷ log) = sum (at (x .words)) n + moneyPaid n log
+
+-- a period of n participants, by its account
+module _ (n : ℕ) (a : Account) where
+  -- its month: B, O and with them G
+  abbrev pub monthIn : Month
+  monthIn = record { n = n; by = a .by; to = a .to }
+
+  -- A, P and F
+  abbrev pub retention : ℕ → ℕ
+  retention = notice.retention monthIn
+
+  abbrev pub payable : ℕ → ℕ
+  payable = notice.payable monthIn retention
+
+  abbrev pub fullClaim : ℕ → ℕ
+  fullClaim = notice.fullClaim monthIn retention
+
+  -- set-off, claims C and the arrears of step 1, with the receipts before the settle entry as received
+  abbrev pub setOff : ℕ → ℕ
+  setOff = step1.setOff monthIn retention (a .before)
+
+  abbrev pub claim : ℕ → ℕ
+  claim = step1.claim monthIn retention (a .before)
+
+  abbrev pub arrearsAtSettlement : ℕ → ℕ
+  arrearsAtSettlement = step1.arrears monthIn retention (a .before)
+
+  -- arrears now: those of step 1, each less that payer's later receipts
+  abbrev pub arrears : ℕ → ℕ
+  arrears i = arrearsAtSettlement i - a .late i
+
+  -- all receipts of i
+  abbrev pub received : ℕ → ℕ
+  received i = a .before i + a .late i
+
+  -- unpaid claims: C_i less what i was paid, over all i
+  abbrev pub unpaidClaims : ℕ
+  unpaidClaims = sum (λ i. claim i - a .paid i) n
+
+  -- held money: its receipts less all that was paid in it
+  abbrev pub heldMoney : ℕ
+  heldMoney = sum received n - sum (a .paid) n

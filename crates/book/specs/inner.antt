@@ -1,0 +1,3 @@
+pub mod OnePeriod
+pub mod Ways
+pub mod Postings

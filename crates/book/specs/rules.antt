@@ -1,0 +1,7 @@
+pub mod Kinds
+pub mod Periods
+pub mod State
+pub mod Step
+pub mod Valid
+pub mod Answers
+pub mod Refusals

@@ -1,0 +1,94 @@
+-- The book's refusals, 3 to 14, in 01's order (01, Refused, by whoever causes it).
+use Prim.Native.Nat.{ℕ, _+_, _-_, _≤_, _<_}
+use mathlib.Core.Path.{_≡_}
+use mathlib.Core.Bool.{true, Bool, false, cond, not}
+use mathlib.Core.List.{List, [], _∷_}
+use lib.Dec.{eqb, ltb, leb}
+use lib.ListN.{length}
+use Rattle.exact.specs.Rows.{at}
+use Rattle.settlement.specs.Month.{sideLimit}
+use Rattle.book.specs.Checks.{Check, on}
+use Rattle.book.specs.layouts.Allowed.{allowed}
+use Rattle.book.specs.rules.Kinds.{periodOf, isOpen, isAmount, isNotice, isReceipt, isSettle, addition, payerOf, receiptCents}
+use Rattle.book.specs.rules.Periods.{isOpened, isNoticed, isSettled, sideTotal}
+use Rattle.book.specs.rules.State.{State, mostPeriods, find, periodAt, earlierArrears}
+use Rattle.book.specs.declared.entries.Entry.{Entry}
+use Rattle.book.specs.declared.kinds.Addition.{Addition}
+use Rattle.book.specs.declared.Stage.{Stage}
+use Rattle.book.specs.declared.Period.{Period}
+
+-- an entry, and the payout words that are lent with it
+pub record Input : Type 0 where
+  pub entry : Entry
+  pub words : List ℕ
+
+-- what may still be received from i: P_i not yet received, or i's arrears once settled
+unfoldable pub receivable : Period → ℕ → ℕ
+receivable p i = cond (isSettled (p .stage)) (at (p .arrears) i) (at (p .payable) i - at (p .received) i)
+
+-- n participants; cents added to a side of a total: 12, 9 unless before notice, 11
+abbrev pub sideChecks : ℕ → Stage → ℕ → ℕ → ℕ → List Check
+sideChecks n stage total i cents =
+    on (leb n i) 12
+    ∷ on (not (isOpened stage)) 9
+    ∷ on (ltb sideLimit (total + cents)) 11
+    ∷ []
+
+-- kinds 2 and 3, by what they add to the period that the entry names
+abbrev pub amountChecks : ℕ → Period → Addition → List Check
+amountChecks n p a = sideChecks n (p .stage) (sideTotal n p (a .side)) (a .participant) (a .cents)
+
+-- kind 4: 9 unless before notice, 10
+abbrev pub noticeChecks : ℕ → Period → List Check
+noticeChecks n p = on (not (isOpened (p .stage))) 9 ∷ on (not (eqb (sideTotal n p 0) (sideTotal n p 1))) 10 ∷ []
+
+-- kind 5: 12, 9 before notice, 14 where `barred` says so, 13
+abbrev pub receiptChecks : ℕ → Bool → Period → ℕ → ℕ → List Check
+receiptChecks n barred p i cents =
+    on (leb n i) 12
+    ∷ on (isOpened (p .stage)) 9
+    ∷ on barred 14
+    ∷ on (ltb (receivable p i) cents) 13
+    ∷ []
+
+-- kind 6: 9 unless noticed and not settled
+abbrev pub settleChecks : Period → List Check
+settleChecks p = on (not (isNoticed (p .stage))) 9 ∷ []
+
+-- whether an earlier settled period has arrears of the payer: 14
+abbrev pub barring : Entry → List Period → Bool
+barring e ps = cond (isReceipt e) (earlierArrears (payerOf e) (periodOf e) ps) false
+
+abbrev pub periodChecks : ℕ → Bool → Entry → Period → List Check
+periodChecks n barred e p =
+    cond (isAmount e) (amountChecks n p (addition e))
+    (cond (isNotice e) (noticeChecks n p)
+    (cond (isReceipt e) (receiptChecks n barred p (payerOf e) (receiptCents e))
+    (cond (isSettle e) (settleChecks p) [])))
+
+-- kind 1: 6, 7
+abbrev pub openChecks : State → ℕ → List Check
+openChecks s k = on (leb k (s .highest)) 6 ∷ on (leb mostPeriods (length (s .periods))) 7 ∷ []
+
+-- the other kinds: 8, then those of the period
+abbrev pub namedChecks : State → Entry → List Check
+namedChecks s e =
+    on (leb (length (s .periods)) (find (periodOf e) (s .periods))) 8
+    ∷ periodChecks (s .n) (barring e (s .periods)) e (periodAt (periodOf e) (s .periods))
+
+abbrev pub kindChecks : State → Entry → List Check
+kindChecks s e = cond (isOpen e) (openChecks s (periodOf e)) (namedChecks s e)
+
+-- the book checks 4, 5, 3, then those of the kind
+abbrev pub checks : State → Input → List Check
+checks s x =
+    on (eqb (s .n) 0) 4
+    ∷ on (ltb (length (x .words)) (s .n)) 5
+    ∷ on (not (allowed (x .entry))) 3
+    ∷ kindChecks s (x .entry)
+
+-- 4, 5 and 3 are passed
+pub record Entered (s : State) (x : Input) : Type 0 where
+  pub some : 0 < s .n
+  pub enough : s .n ≤ length (x .words)
+  pub fields : allowed (x .entry) ≡ true

@@ -1,0 +1,119 @@
+-- The book as 01 has it, a list of periods, and the record that the program keeps of it.
+use Prim.Native.Nat.{ℕ, suc, _+_, _-_}
+use mathlib.Core.Bool.{Bool, true, false, cond}
+use mathlib.Core.List.{List, [], _∷_, _++_}
+use lib.Dec.{eqb, ltb}
+use lib.ListN.{getD, length, take, drop, replicate}
+use Rattle.exact.specs.Rows.{places, at}
+use Rattle.book.specs.Checks.{Check, on, refusal}
+use Rattle.book.specs.rules.Periods.{isSettled, fresh, holds}
+use Rattle.book.specs.declared.Stage.the-variants.{Opened}
+use Rattle.book.specs.declared.Period.{Period}
+use Rattle.book.specs.declared.Book.{Book}
+
+-- the most periods in a book (01, The month's sums)
+abbrev pub mostPeriods : ℕ
+mostPeriods = 12
+
+-- n participants, the highest period ever opened, and the periods in the book, oldest first
+pub record State : Type 0 where
+  pub n : ℕ
+  pub highest : ℕ
+  pub periods : List Period
+
+-- the cents that the book holds, over its periods
+unfoldable pub heldIn : ℕ → List Period → ℕ
+heldIn n [] = 0
+heldIn n (p ∷ ps) = holds n p + heldIn n ps
+
+-- the state that a record stands for ..
+abbrev pub view : Book → State
+view b = record { n = b .n; highest = b .highest; periods = take (b .count) (b .periods) }
+
+-- .. and the record of a state: nothing in it is free
+unfoldable pub pack : State → Book
+pack s = record {
+  n = s .n;
+  highest = s .highest;
+  count = length (s .periods);
+  held = heldIn (s .n) (s .periods);
+  periods = s .periods ++ replicate (mostPeriods - length (s .periods)) (fresh 0);
+}
+
+-- the cents held, which the book keeps and the listing prints
+abbrev pub centsHeld : Book → ℕ
+centsHeld b = b .held
+
+-- the numbers of the periods in the book
+abbrev pub numbers : List Period → List ℕ
+numbers [] = []
+numbers (p ∷ ps) = p .number ∷ numbers ps
+
+abbrev pub numbersIn : Book → List ℕ
+numbersIn b = numbers (view b .periods)
+
+-- what a book is made with
+pub record Making : Type 0 where
+  pub n : ℕ
+
+-- 4 for n of 0 or above 64 (01, Refused)
+abbrev pub makingChecks : Making → List Check
+makingChecks m = on (eqb (m .n) 0) 4 ∷ on (ltb places (m .n)) 4 ∷ []
+
+pub record Made : Type 0 where
+  pub answer : ℕ
+  pub state : State
+
+-- a book just made; one that was refused has no participants
+unfoldable pub made : Making → Made
+made m = record {
+  answer = refusal (makingChecks m);
+  state = record { n = cond (eqb (refusal (makingChecks m)) 0) (m .n) 0; highest = 0; periods = [] };
+}
+
+-- the place of period k in a list of periods, or how many there are where it is not among them
+unfoldable pub find : ℕ → List Period → ℕ
+find k [] = 0
+find k (p ∷ ps) = cond (eqb (p .number) k) 0 (suc (find k ps))
+
+-- what stands for a period past the end of a list
+abbrev pub noPeriod : Period
+noPeriod = record {
+  number = 0;
+  stage = Opened;
+  totals = [];
+  by = [];
+  to = [];
+  payable = [];
+  received = [];
+  paid = [];
+  claim = [];
+  arrears = [];
+}
+
+abbrev pub periodAt : ℕ → List Period → Period
+periodAt k ps = getD ps (find k ps) noPeriod
+
+-- the period is settled and earlier than period k, and i has arrears in it
+unfoldable pub arrearsBefore : ℕ → ℕ → Period → Bool
+arrearsBefore i k p = cond (ltb (p .number) k) (cond (isSettled (p .stage)) (ltb 0 (at (p .arrears) i)) false) false
+
+-- an earlier settled period has arrears of i
+unfoldable pub earlierArrears : ℕ → ℕ → List Period → Bool
+earlierArrears i k [] = false
+earlierArrears i k (p ∷ ps) = cond (arrearsBefore i k p) true (earlierArrears i k ps)
+
+abbrev pub withPeriods : State → List Period → State
+withPeriods s ps = record { n = s .n; highest = s .highest; periods = ps }
+
+-- the period at place j replaced by another
+unfoldable pub replaced : State → ℕ → Period → State
+replaced s j p = withPeriods s (take j (s .periods) ++ p ∷ drop (suc j) (s .periods))
+
+-- the period at place j taken out
+unfoldable pub removed : State → ℕ → State
+removed s j = withPeriods s (take j (s .periods) ++ drop (suc j) (s .periods))
+
+-- one more period, the last, whose number is then the highest
+unfoldable pub added : State → Period → State
+added s p = record { n = s .n; highest = p .number; periods = s .periods ++ (p ∷ []) }

@@ -1,0 +1,141 @@
+// One entry of any kind.
+ghost use mathlib.Core.Path.{_≡_};
+ghost use mathlib.Core.Bool.{true, false};
+ghost use Prim.Native.Nat.{_≤_, _<_};
+ghost use lib.ListN.{length};
+ghost use Rattle.exact.specs.Rows.{places};
+ghost use Rattle.book.specs.layouts.Allowed.{allowed};
+ghost use Rattle.book.specs.rules.Kinds.{isOpen};
+ghost use Rattle.book.specs.rules.Periods.{fresh, zeros};
+ghost use Rattle.book.specs.rules.State.{view, pack, added, mostPeriods};
+ghost use Rattle.book.specs.rules.Refusals.{Entered, barring};
+ghost use Rattle.book.specs.rules.Step.{payoutWords, reply};
+ghost use Rattle.book.specs.rules.Answers.{replied};
+ghost use Rattle.book.specs.rules.Valid.{Valid};
+use crate::Book;
+use crate::allowed::is_allowed;
+use crate::answers::Answer;
+use crate::answers::is_accepted;
+use crate::effects::apply_to_period;
+use crate::entries::Entry;
+use crate::kinds::is_open;
+use crate::kinds::period_of;
+use crate::periods::fresh_period;
+use crate::periods::is_leaving;
+use crate::places::has_earlier_arrears;
+use crate::places::place;
+use crate::places::with_period;
+use crate::places::without_period;
+use crate::refusals::opening_answer;
+use exact::PLACES;
+use exact::put_cells;
+
+// The answer to an entry, the rounds of a settlement, and the book that it leaves.
+pub struct Applied {
+    pub answer: Answer,
+    pub rounds: u64,
+    pub book: Book,
+}
+
+// Whether another period refuses the entry (14).
+pub fn is_barred(b: Book, e: Entry) -> bool
+    requires { ⌜ Valid b × (allowed e ≡ true) ⌝ }
+    ensures { λ r. ⌜ r ≡ barring e (view b .periods) ⌝ }
+{
+    match e {
+        Entry::Receipt {
+            period,
+            participant,
+            cents: _,
+        } => has_earlier_arrears(b, participant as usize, period),
+        _ => false,
+    }
+}
+
+fn refused(answer: Answer, book: Book) -> Applied
+    ensures { λ r. ⌜ r ≡ record { answer = answer; rounds = 0; book = book } ⌝ }
+{
+    Applied {
+        answer: answer,
+        rounds: 0,
+        book: book,
+    }
+}
+
+// Opens period k, where 4 to 7 are passed, and pays nothing.
+pub fn with_opened(b: Book, k: u32, words: &mut [u64]) -> Book
+    requires { ⌜ Valid b × (b .n ≤ length (now words)) × (length (view b .periods) < mostPeriods) ⌝ }
+    ensures { λ r. ⌜ (r ≡ pack (added (view b) (fresh k))) × (now (words .exit) ≡ payoutWords (b .n) (zeros places) (now (words .entry))) ⌝ }
+{
+    put_cells(words, b.n, [0; PLACES]);
+    let p = fresh_period(k);
+    with_period(b, p)
+}
+
+// Opens a period; 4, 5 and 3 are passed.
+fn open_period(b: Book, e: Entry, words: &mut [u64]) -> Applied
+    requires { ⌜ Valid b × Entered (view b) (record { entry = e; words = now words }) × (isOpen e ≡ true) ⌝ }
+    ensures { λ r. ⌜ replied r (now (words .exit)) ≡ reply b (record { entry = e; words = now (words .entry) }) ⌝ }
+{
+    let k = period_of(e);
+    let answer = opening_answer(b, k);
+    if !is_accepted(answer) {
+        return refused(answer, b);
+    }
+    let next = with_opened(b, k, words);
+    Applied {
+        answer: answer,
+        rounds: 0,
+        book: next,
+    }
+}
+
+// Changes the period that the entry names; 4, 5 and 3 are passed.
+fn change_named(mut b: Book, e: Entry, words: &mut [u64]) -> Applied
+    requires { ⌜ Valid b × Entered (view b) (record { entry = e; words = now words }) × (isOpen e ≡ false) ⌝ }
+    ensures { λ r. ⌜ replied r (now (words .exit)) ≡ reply b (record { entry = e; words = now (words .entry) }) ⌝ }
+{
+    let j = place(b, period_of(e));
+    if b.count <= j {
+        return refused(Answer::NotInBook, b);
+    }
+    let p = b.periods[j];
+    let r = apply_to_period(p, b.n, e, is_barred(b, e), b.held, words);
+    let q = r.period;
+    let answer = r.answer;
+    if is_leaving(q, b.n) {
+        let next = without_period(b, j, r.held);
+        return Applied {
+            answer: answer,
+            rounds: r.rounds,
+            book: next,
+        };
+    }
+    b.held = r.held;
+    b.periods[j] = q;
+    Applied {
+        answer: answer,
+        rounds: r.rounds,
+        book: b,
+    }
+}
+
+// Applies an entry of any field values, with any number of payout words.
+pub fn apply(b: Book, e: Entry, words: &mut [u64]) -> Applied
+    requires { ⌜ Valid b ⌝ }
+    ensures { λ r. ⌜ replied r (now (words .exit)) ≡ reply b (record { entry = e; words = now (words .entry) }) ⌝ }
+{
+    if b.n == 0 {
+        return refused(Answer::NoParticipants, b);
+    }
+    if words.len() < b.n {
+        return refused(Answer::FewWords, b);
+    }
+    if !is_allowed(e) {
+        return refused(Answer::Outside, b);
+    }
+    if is_open(e) {
+        return open_period(b, e, words);
+    }
+    change_named(b, e, words)
+}
