@@ -1,6 +1,7 @@
-pub mod layouts
-pub mod rules
-pub mod records
-pub mod history
-pub mod runs
-pub mod examples
+mod layouts
+mod rules
+mod records
+mod history
+mod runs
+mod examples
+pub mod Laws

@@ -3,7 +3,7 @@ use mathlib.Core.Path.{_≡_, sym, subst}
 use native.Mathlib.Omega.{arith}
 use lib.ListN.{length}
 use Rattle.book.specs.rules.Valid.{Valid}
-use Rattle.book.proofs.runs.RunValid.{run-within}
+use Rattle.book.proofs.Laws.{run-within}
 use Rattle.text.proofs.BlockLaws.{waiting-le}
 use borrow.Author.Needs.{needs}
 use Rattle.listing.proofs.list_block.Statement.{statement}

@@ -1,7 +1,7 @@
 use mathlib.Core.Path.{sym, subst}
 use borrow.Author.Needs.{needs}
 use Rattle.book.specs.rules.Valid.{Valid}
-use Rattle.book.proofs.rules.ValidLaws.{stays-valid}
+use Rattle.book.proofs.Laws.{stays-valid}
 use Rattle.trial.proofs.main.Statement.{statement}
 use Rattle.trial.proofs.main.Tie as tie
 

@@ -1,7 +1,7 @@
 use mathlib.Core.Path.{ap, sym, subst}
 use Rattle.book.specs.rules.Step.{Reply}
 use Rattle.book.specs.rules.Valid.{Valid}
-use Rattle.book.proofs.rules.ValidLaws.{stays-valid}
+use Rattle.book.proofs.Laws.{stays-valid}
 use borrow.Author.Needs.{needs}
 use Rattle.trial.proofs.calling.apply.Statement.{statement}
 use Rattle.trial.proofs.calling.apply.Tie as tie

@@ -1,0 +1,15 @@
+-- The theorems about the book, and all that a crate above may use of its definitions.
+
+-- reading and writing undo each other, and each answer has a number of its own
+pub use Rattle.book.proofs.layouts.RoundTrips.{written-then-read, read-then-written}
+pub use Rattle.book.proofs.layouts.Outcomes.{read-one-to-one, write-one-to-one, number-one-to-one}
+-- every book that is handed back is valid; refusals; rounds
+pub use Rattle.book.proofs.rules.ValidLaws.{stays-valid, refusal-changes-nothing, rounds-of-settlements}
+-- demand 3, of entries one after the other and of block runs among them
+pub use Rattle.book.proofs.history.Demand3.{demand3}
+pub use Rattle.book.proofs.runs.RunDemand3.{block-runs}
+-- what a run leaves of its room
+pub use Rattle.book.proofs.runs.RunValid.{Within, run-within}
+-- examples
+pub use Rattle.book.proofs.examples.Months.{examples}
+pub use Rattle.book.proofs.examples.Limits.{limits}
