@@ -1,14 +1,16 @@
 -- Every accepted entry leaves its period with what the log then comes to, and every late receipt meets tiers in order.
 use Prim.Native.Nat.{ℕ, _<_}
 use mathlib.Core.Path.{_≡_, refl, sym, subst}
-use mathlib.Core.Bool.{Bool, true, false, true≢false, false≢true}
+use mathlib.Core.Bool.{Bool, true, false, true≢false}
 use mathlib.Core.List.{List}
 use mathlib.Core.Logic.{⊎-elim}
 use native.Mathlib.Omega.{arith}
+use borrow.Author.Tests.{eqb-true}
 use Rattle.exact.specs.Rows.{places}
 use Rattle.book.specs.Checks.{refusal}
+use Rattle.book.specs.layouts.Entries.{kindOf, entryOf}
 use Rattle.book.specs.layouts.Allowed.{allowed}
-use Rattle.book.specs.rules.Kinds.{isOpen, isAmount, isReceipt, addition}
+use Rattle.book.specs.rules.Kinds.{field, isOpen, isAmount, isReceipt, addition}
 use Rattle.book.specs.rules.Periods.{zeros, Change, withAddition, changed}
 use Rattle.book.specs.rules.Refusals.{amountChecks, periodChecks}
 use Rattle.book.specs.rules.Valid.{Sound}
@@ -17,6 +19,7 @@ use Rattle.book.specs.history.Demand3.{TiersInOrder}
 use Rattle.book.specs.declared.entries.Entry.{Entry}
 use Rattle.book.specs.declared.entries.Entry.the-variants.{Open, Energy, Amount, Notice, Receipt, Settle}
 use Rattle.book.specs.declared.Period.{Period}
+use Rattle.book.proofs.layouts.EntryLaws.{of-kind}
 use Rattle.book.proofs.rules.Passing.{amount-passes, notice-passes, receipt-passes, settle-passes}
 use Rattle.book.proofs.rules.AdditionLaws.{amount-other, amount-within}
 use Rattle.book.proofs.rules.EntryChanges.{changed-receipt, changed-late}
@@ -49,16 +52,18 @@ module _ (n : ℕ) (p : Period) (s : Sound n p) (a : Account) (t : Tracks n p a)
       (f .stage)
   entry-tracks (Settle k) barred o l e w = track-settle n p s a t words k (settle-passes p e) w
 
-  pub entry-in-order : (e : Entry) (barred : Bool) → refusal (periodChecks n barred e p) ≡ 0 → Paid n (changed n e p .pays) words
-      → isReceipt e ≡ true → 0 < a .settlements → TiersInOrder n a (with-entry e words a)
-  entry-in-order (Open k) barred e w r x = absurd (false≢true r)
-  entry-in-order (Energy k i side quantity price) barred e w r x = absurd (false≢true r)
-  entry-in-order (Amount k i side tier cents) barred e w r x = absurd (false≢true r)
-  entry-in-order (Notice k) barred e w r x = absurd (false≢true r)
-  entry-in-order (Receipt k i cents) barred e w r x =
+  receipt-in-order : (k i cents : ℕ) (barred : Bool) → 0 < a .settlements → refusal (periodChecks n barred (Receipt k i cents) p) ≡ 0
+      → Paid n (changed n (Receipt k i cents) p .pays) words → TiersInOrder n a (with-entry (Receipt k i cents) words a)
+  receipt-in-order k i cents barred x e w =
       let f = receipt-passes n p barred i cents e in
       ⊎-elim
       (λ q. absurd (omega (arith, x, subst (Staged n p a) q (t .staged) .unsettled)))
       (λ q. late-in-order n p s a t words k i cents q f (subst (λ (c : Change). Paid n (c .pays) words) (changed-late n p k i cents q) w))
       (f .stage)
-  entry-in-order (Settle k) barred e w r x = absurd (false≢true r)
+
+  pub entry-in-order : (e : Entry) (barred : Bool) → refusal (periodChecks n barred e p) ≡ 0 → Paid n (changed n e p .pays) words
+      → isReceipt e ≡ true → 0 < a .settlements → TiersInOrder n a (with-entry e words a)
+  unfolding entryOf
+  entry-in-order e barred z w r x =
+      of-kind (λ (e : Entry). refusal (periodChecks n barred e p) ≡ 0 → Paid n (changed n e p .pays) words → TiersInOrder n a (with-entry e words a)) 5 e
+      (eqb-true (kindOf e) 5 r) (receipt-in-order (field e 0) (field e 1) (field e 2) barred x) z w

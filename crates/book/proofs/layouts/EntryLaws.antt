@@ -1,16 +1,15 @@
 -- Laws of kinds, layouts and allowed values.
-use mathlib.Core.Path.{_≡_, refl, sym, ap, _∙_}
+use mathlib.Core.Path.{_≡_, refl, sym, ap, subst, _∙_}
 use mathlib.Core.Bool.{Bool, true, false, cond, true≢false}
 use mathlib.Core.List.{List, _++_}
 use Prim.Native.Nat.{ℕ, zero, suc, _+_, _≤_, _<_}
 use native.Mathlib.Nat.{zero-add, pos-of-ne-zero}
 use native.Mathlib.Omega.{arith}
-use borrow.Author.Tests.{leb-false, eqb-true, eqb-false}
+use borrow.Author.Tests.{leb-false, eqb-false}
 use lib.Dec.{eqb, leb}
 use lib.ListN.{length, drop}
 use lib.Seq.{sets, sets-eq}
 use Rattle.book.specs.layouts.Fields.{bytes, fieldsAt, fieldBytes}
-use Rattle.book.specs.rules.Kinds.{field, isReceipt}
 use Rattle.book.specs.layouts.Entries.{bodyLengths, bodyLength, unknown, layout, kindOf, fieldsOf, entryOf, bytesOf, size}
 use Rattle.book.specs.declared.entries.Entry.{Entry}
 use Rattle.book.specs.declared.entries.Entry.the-variants.{Open, Energy, Amount, Notice, Receipt, Settle}
@@ -56,10 +55,9 @@ entry-again (Notice _) = refl
 entry-again (Receipt _ _ _) = refl
 entry-again (Settle _) = refl
 
--- a receipt, by its fields
-pub is-receipt : (e : Entry) → isReceipt e ≡ true → e ≡ Receipt (field e 0) (field e 1) (field e 2)
-unfolding entryOf
-is-receipt e q = sym (entry-again e) ∙ ap (λ (k : ℕ). entryOf k (fieldsOf e)) (eqb-true (kindOf e) 5 q)
+-- a fact of an entry of a known kind, from that of the entry with its fields
+pub of-kind : (P : Entry → Type 0) (k : ℕ) (e : Entry) → kindOf e ≡ k → P (entryOf k (fieldsOf e)) → P e
+of-kind P k e q = subst P (ap (λ (j : ℕ). entryOf j (fieldsOf e)) (sym q) ∙ entry-again e)
 
 -- the fields of a layout make an entry of that kind with those fields
 pub kind-again : (s : List ℕ) (place kind : ℕ) → unknown kind ≡ false → kindOf (entryOf kind (fieldsAt (layout kind) s place)) ≡ kind

@@ -4,10 +4,12 @@ use mathlib.Core.Path.{_≡_, refl, sym, ap, subst, subst₂, _∙_}
 use mathlib.Core.Bool.{true, false}
 use mathlib.Core.List.{List}
 use native.Mathlib.Omega.{arith}
+use borrow.Author.Tests.{eqb-true}
 use lib.ListN.{length, getD}
 use Rattle.exact.specs.Rows.{at, sum}
 use Rattle.exact.proofs.Cases.{cases}
 use Rattle.book.specs.Checks.{refusal}
+use Rattle.book.specs.layouts.Entries.{kindOf, entryOf}
 use Rattle.book.specs.layouts.Allowed.{allowed, centsLimit}
 use Rattle.book.specs.rules.Kinds.{field, periodOf, isOpen, isReceipt, receiptCents}
 use Rattle.book.specs.rules.Periods.{leaves, holds, changed}
@@ -19,7 +21,7 @@ use Rattle.book.specs.declared.entries.Entry.{Entry}
 use Rattle.book.specs.declared.entries.Entry.the-variants.{Receipt}
 use Rattle.book.specs.declared.Period.{Period}
 use Rattle.book.specs.declared.Book.{Book}
-use Rattle.book.proofs.layouts.EntryLaws.{is-receipt}
+use Rattle.book.proofs.layouts.EntryLaws.{of-kind}
 use Rattle.book.proofs.rules.Passing.{allowed-inside}
 use Rattle.book.proofs.rules.ChangeLaws.{Changes}
 use Rattle.book.proofs.rules.StepLaws.{Names, accepted-names}
@@ -30,8 +32,9 @@ use Rattle.book.proofs.records.Replies.{to-period, held-replaced, held-
 
 -- a receipt's cents are within their limit
 pub cents-within : (e : Entry) → allowed e ≡ true → receiptCents e ≤ centsLimit
+unfolding entryOf
 cents-within e a = cases (λ (c : ℕ). c ≤ centsLimit) (isReceipt e)
-    (λ q. allowed-inside (Receipt (field e 0) (field e 1) (field e 2)) (subst (λ (e : Entry). allowed e ≡ true) (is-receipt e q) a) .1)
+    (λ q. of-kind (λ (e : Entry). allowed e ≡ true → field e 2 ≤ centsLimit) 5 e (eqb-true (kindOf e) 5 q) (λ a. allowed-inside (Receipt (field e 0) (field e 1) (field e 2)) a .1) a)
     (λ _. omega arith)
 
 -- the entry names the period at place j, which is in use

@@ -1,7 +1,7 @@
 -- A book just made is valid, every entry leaves a valid book, a refused one leaves it as it was.
 use Prim.Native.Nat.{ℕ, zero, suc, _+_, _-_, _*_, _≤_, _<_}
 use mathlib.Core.Path.{_≡_, refl, sym, ap, subst, _∙_}
-use mathlib.Core.Bool.{Bool, true, false, true≢false}
+use mathlib.Core.Bool.{Bool, true, false}
 use mathlib.Core.List.{List, [], _∷_, _++_}
 use mathlib.Core.Logic.{_⊎_, inl, inr}
 use native.Mathlib.Omega.{arith}
@@ -15,14 +15,13 @@ use Rattle.exact.proofs.RowLaws.{sum-zero}
 use Rattle.settlement.specs.Month.{tiers, overTiers, tierAt}
 use Rattle.settlement.specs.Settling.{held}
 use Rattle.book.specs.Checks.{refusal}
-use Rattle.book.specs.rules.Kinds.{periodOf, isOpen, isSettle, receiptCents}
+use Rattle.book.specs.rules.Kinds.{periodOf, isOpen, isAmount, isNotice, isReceipt, isSettle, receiptCents}
 use Rattle.book.specs.rules.Periods.{isSettled, zeros, holds, sideTotal, fresh, leaves, Change, changed, withLateReceipt}
 use Rattle.book.specs.rules.State.{State, view, pack, mostPeriods, Making, makingChecks, made, find, periodAt, replaced, removed, added}
 use Rattle.book.specs.rules.Refusals.{Input, Entered, checks}
 use Rattle.book.specs.rules.Step.{Outcome, stored, accepted, step, reply}
 use Rattle.book.specs.rules.Valid.{All, InBook, SoundState, Valid, StaysValid, RefusalChangesNothing, RoundsOfSettlements}
 use Rattle.book.specs.declared.entries.Entry.{Entry}
-use Rattle.book.specs.declared.entries.Entry.the-variants.{Open, Energy, Amount, Notice, Receipt, Settle}
 use Rattle.book.specs.declared.Period.{Period}
 use Rattle.book.proofs.rules.CheckLaws.{all-pass}
 use Rattle.book.proofs.rules.CellLaws.{zeros-length, zeros-at, zeros-over}
@@ -166,12 +165,12 @@ refusal-changes-nothing b x v ne =
 
 changed-rounds : (n : ℕ) (e : Entry) (p : Period) → isSettle e ≡ false → changed n e p .rounds ≡ 0
 unfolding changed withLateReceipt
-changed-rounds n (Open k) p q = refl
-changed-rounds n (Energy k i side quantity price) p q = refl
-changed-rounds n (Amount k i side tier cents) p q = refl
-changed-rounds n (Notice k) p q = refl
-changed-rounds n (Receipt k i cents) p q = cases (λ (c : Change). c .rounds ≡ 0) (isSettled (p .stage)) (λ _. refl) (λ _. refl)
-changed-rounds n (Settle k) p q = absurd (true≢false q)
+changed-rounds n e p q =
+    let P : Change → Type 0 = λ c. c .rounds ≡ 0 in
+    cases P (isAmount e) (λ _. refl)
+    (λ _. cases P (isNotice e) (λ _. refl)
+    (λ _. cases P (isReceipt e) (λ _. cases P (isSettled (p .stage)) (λ _. refl) (λ _. refl))
+    (λ _. rw q refl)))
 
 accepted-rounds : (s : State) (x : Input) → isSettle (x .entry) ≡ false → accepted s x .rounds ≡ 0
 unfolding accepted
