@@ -10,7 +10,7 @@ use lib.Dec.{eqb}
 use lib.ListN.{length, getD}
 use lib.Seq.{sets}
 use Rattle.exact.specs.Rows.{places, at, sum}
-use Rattle.exact.proofs.Cases.{cases, eq-or-ne}
+use Rattle.exact.proofs.Cases.{cases}
 use Rattle.book.specs.Checks.{refusal}
 use Rattle.book.specs.rules.Kinds.{periodOf, isOpen}
 use Rattle.book.specs.rules.Periods.{zeros, fresh, changed}

@@ -4,7 +4,6 @@ use borrow.Author.Tests.{le-leb, lt-leb}
 use lib.ListN.{length}
 use Rattle.book.specs.rules.State.{view, mostPeriods}
 use Rattle.book.proofs.records.Packing.{count-is}
-use borrow.Author.Needs.{needs}
 use Rattle.book.proofs.refusals.opening_answer.Statement.{statement}
 use Rattle.book.proofs.refusals.opening_answer.Tie as tie
 
