@@ -1,2 +1,3 @@
 mod SliceLaws
+mod EachLaws
 mod OrderLaws

@@ -4,7 +4,7 @@ use mathlib.Core.Bool.{Bool, cond}
 use mathlib.Core.List.{List}
 use lib.ListN.{take}
 use Rattle.exact.specs.Rows.{places, at, filled}
-use Rattle.settlement.specs.Month.{Month, month, tiers}
+use Rattle.settlement.specs.Month.{Month, month, tiers, overTiers, tierAt}
 
 -- as many cells as the tiers of all participants take
 abbrev pub tierPlaces : ℕ
@@ -17,6 +17,10 @@ front count s = take count s
 -- the row in a slice
 abbrev pub rowOf : List ℕ → ℕ → ℕ
 rowOf s = at (front places s)
+
+-- the cents owing to each participant over all tiers, in a slice
+abbrev pub owingOf : List ℕ → ℕ → ℕ
+owingOf to = overTiers (tierAt (front tierPlaces to))
 
 -- the month in two slices
 abbrev pub monthOf : ℕ → List ℕ → List ℕ → Month

@@ -1,4 +1,8 @@
 // C exports: the exact proportion; over slices, notice, scaled amounts, settlement and late money of one month.
+// Arguments are in order where 01 can have such a month: n is 1 to 64, rows have 64 cells or more and tiers 320, the sides'
+// totals are equal and within their bound, nothing received is above what is payable, no claim above what is owing, nothing
+// paid above its claim, and no late money above the unpaid claims. Other arguments are refused, since a difference of
+// theirs could be below 0.
 mod months;
 mod orders;
 mod slices;
@@ -8,9 +12,10 @@ use months::late_of;
 use months::notice_of;
 use months::scaled_of;
 use months::settled_of;
+use orders::check_receipts;
 use orders::in_order;
+use orders::late_in_order;
 use orders::proportional;
-use orders::tiers_in_order;
 use slices::put_row;
 use slices::shorter;
 ghost use mathlib.Core.Path.{_≡_};
@@ -23,7 +28,7 @@ ghost use Rattle.exact.specs.Rows.{places, cells};
 ghost use Rattle.settlement.specs.Month.{tierAt};
 ghost use Rattle.settlement.specs.Late.{latePayment};
 ghost use Rattle.exports.specs.Slices.{front, rowOf, tierPlaces, left};
-ghost use Rattle.exports.specs.Orders.{tiersInOrder, inOrder, settlementInOrder};
+ghost use Rattle.exports.specs.Orders.{inOrder, settlementInOrder, lateInOrder};
 ghost use Rattle.exports.specs.Answers.{noticeOf, scaledOf, settledOf, refused, noQuotient};
 
 // More rounds than any settlement runs: the answer to arguments that are not in order.
@@ -86,12 +91,13 @@ pub extern "C" fn clearing_scaled(
     ensures { λ r. ⌜ now (above .exit) ≡ left r (scaledOf n (now (by .entry)) (now (to .entry)) (now (received .entry)) .above) (now (above .entry)) ⌝ }
     ensures { λ r. ⌜ now (below .exit) ≡ left r (scaledOf n (now (by .entry)) (now (to .entry)) (now (received .entry)) .below) (now (below .entry)) ⌝ }
 {
-    let outs = shorter(revised.len(), shorter(above.len(), below.len()));
-    let room = shorter(received.len(), outs);
-    if !in_order(by, to, n, room) {
+    let room = shorter(revised.len(), shorter(above.len(), below.len()));
+    let checked = check_receipts(by, to, received, n, room);
+    if !checked.passed {
         return false;
     }
-    let scaled = scaled_of(by, to, received, n);
+    let payable = checked.payable;
+    let scaled = scaled_of(by, to, payable, received, n);
     let revised_row = scaled.revised;
     let above_row = scaled.above;
     let below_row = scaled.below;
@@ -118,12 +124,13 @@ pub extern "C" fn clearing_settle(
     ensures { λ r. ⌜ now (claims .exit) ≡ left (leb r places) (settledOf n (now (by .entry)) (now (to .entry)) (now (received .entry)) .claims) (now (claims .entry)) ⌝ }
     ensures { λ r. ⌜ now (arrears .exit) ≡ left (leb r places) (settledOf n (now (by .entry)) (now (to .entry)) (now (received .entry)) .arrears) (now (arrears .entry)) ⌝ }
 {
-    let outs = shorter(paid.len(), shorter(claims.len(), arrears.len()));
-    let room = shorter(received.len(), outs);
-    if !in_order(by, to, n, room) {
+    let room = shorter(paid.len(), shorter(claims.len(), arrears.len()));
+    let checked = check_receipts(by, to, received, n, room);
+    if !checked.passed {
         return REFUSED;
     }
-    let settled = settled_of(by, to, received, n);
+    let payable = checked.payable;
+    let settled = settled_of(by, to, payable, received, n);
     let paid_row = settled.paid;
     let claims_row = settled.claims;
     let arrears_row = settled.arrears;
@@ -144,11 +151,10 @@ pub extern "C" fn clearing_late(
     n: usize,
     pays: &mut [u64],
 ) -> bool
-    ensures { λ r. ⌜ r ≡ tiersInOrder n (now (to .entry)) (min (length (now (claims .entry))) (min (length (now (paid .entry))) (length (now (pays .entry))))) ⌝ }
+    ensures { λ r. ⌜ r ≡ lateInOrder n (now (to .entry)) (now (claims .entry)) (now (paid .entry)) money (length (now (pays .entry))) ⌝ }
     ensures { λ r. ⌜ now (pays .exit) ≡ left r (cells (latePayment (tierAt (front tierPlaces (now (to .entry)))) (rowOf (now (claims .entry))) (rowOf (now (paid .entry))) n money) n) (now (pays .entry)) ⌝ }
 {
-    let room = shorter(claims.len(), shorter(paid.len(), pays.len()));
-    if !tiers_in_order(to, n, room) {
+    if !late_in_order(to, claims, paid, money, n, pays.len()) {
         return false;
     }
     let pays_row = late_of(to, claims, paid, money, n);

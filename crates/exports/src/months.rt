@@ -29,29 +29,25 @@ pub fn notice_of(by: &[u64], to: &[u64], n: usize) -> Noticed
     notice(by_row, to_cells, n)
 }
 
-// Steps 1 to 3 of its settlement.
-pub fn scaled_of(by: &[u64], to: &[u64], received: &[u64], n: usize) -> Scaled
-    requires { ⌜ Sound n (now by) (now to) × (places ≤ length (now received)) ⌝ }
+// Steps 1 to 3 of its settlement, from the payable row of its notice.
+pub fn scaled_of(by: &[u64], to: &[u64], payable: Row, received: &[u64], n: usize) -> Scaled
+    requires { ⌜ Sound n (now by) (now to) × (places ≤ length (now received)) × (payable ≡ noticeOf n (now by) (now to) .payable) ⌝ }
     ensures { λ r. ⌜ r ≡ scaledOf n (now (by .entry)) (now (to .entry)) (now (received .entry)) ⌝ }
 {
     let by_row = row_of(by);
     let to_cells = tier_cells_of(to);
     let received_row = row_of(received);
-    let noticed = notice(by_row, to_cells, n);
-    let payable = noticed.payable;
     scale(by_row, to_cells, payable, received_row, n)
 }
 
-// Its settlement.
-pub fn settled_of(by: &[u64], to: &[u64], received: &[u64], n: usize) -> Settled
-    requires { ⌜ Sound n (now by) (now to) × (places ≤ length (now received)) ⌝ }
+// Its settlement, from the same.
+pub fn settled_of(by: &[u64], to: &[u64], payable: Row, received: &[u64], n: usize) -> Settled
+    requires { ⌜ Sound n (now by) (now to) × (places ≤ length (now received)) × (payable ≡ noticeOf n (now by) (now to) .payable) ⌝ }
     ensures { λ r. ⌜ r ≡ settledOf n (now (by .entry)) (now (to .entry)) (now (received .entry)) ⌝ }
 {
     let by_row = row_of(by);
     let to_cells = tier_cells_of(to);
     let received_row = row_of(received);
-    let noticed = notice(by_row, to_cells, n);
-    let payable = noticed.payable;
     settle(by_row, to_cells, payable, received_row, n)
 }
 

@@ -1,11 +1,23 @@
 // Whether arguments are in order.
-use crate::slices::within;
+use crate::months::notice_of;
+use crate::slices::SIDE_LIMIT;
+use crate::slices::row_of;
+use crate::slices::shorter;
+use crate::slices::side_total;
+use crate::slices::tier_cells_of;
 use exact::PLACES;
+use exact::Row;
+use exact::excesses;
+use exact::total;
 use settlement::TIERS;
+use settlement::over_tiers;
 ghost use mathlib.Core.Path.{_≡_};
 ghost use mathlib.Core.Bool.{true, false};
+ghost use Prim.Native.Nat.{_≤_};
 ghost use Rattle.exact.specs.Division.{Proportional};
-ghost use Rattle.exports.specs.Orders.{tiersInOrder, inOrder};
+ghost use Rattle.exact.specs.Rows.{places, at};
+ghost use Rattle.exports.specs.Orders.{eachAtMost, tiersInOrder, inOrder, receivedInOrder, lateInOrder};
+ghost use Rattle.exports.specs.Answers.{noticeOf};
 
 // Whether n participants and the cents owing to them by tiers are in order, and the shortest slice of a row has room.
 pub fn tiers_in_order(to: &[u64], n: usize, room: usize) -> bool
@@ -14,16 +26,19 @@ pub fn tiers_in_order(to: &[u64], n: usize, room: usize) -> bool
     if room < PLACES {
         return false;
     }
+    if n < 1 {
+        return false;
+    }
     if PLACES < n {
         return false;
     }
     if to.len() < TIERS * PLACES {
         return false;
     }
-    within(to, TIERS * n)
+    side_total(to, TIERS * n) <= SIDE_LIMIT
 }
 
-// The same with the cents owing by them.
+// The same with the cents owing by them, which must come to as much.
 pub fn in_order(by: &[u64], to: &[u64], n: usize, room: usize) -> bool
     ensures { λ r. ⌜ r ≡ inOrder n (now (by .entry)) (now (to .entry)) room ⌝ }
 {
@@ -33,7 +48,74 @@ pub fn in_order(by: &[u64], to: &[u64], n: usize, room: usize) -> bool
     if by.len() < PLACES {
         return false;
     }
-    within(by, n)
+    side_total(by, n) == side_total(to, TIERS * n)
+}
+
+// Whether each of the first n cells is at most the other row's.
+pub fn each_at_most(a: Row, b: Row, n: usize) -> bool
+    requires { ⌜ n ≤ places ⌝ }
+    ensures { λ r. ⌜ r ≡ eachAtMost (at a) (at b) n ⌝ }
+{
+    for i in 0..n {
+        if b[i] < a[i] {
+            return false;
+        }
+    }
+    true
+}
+
+// Whether a settlement's arguments are in order, and the payable row of the month's notice where they are: the settlement
+// is handed that row, so that no notice is reckoned twice.
+pub struct Checked {
+    pub passed: bool,
+    pub payable: Row,
+}
+
+// Checks the sums of a month and what was received.
+pub fn check_receipts(by: &[u64], to: &[u64], received: &[u64], n: usize, room: usize) -> Checked
+    ensures { λ r. ⌜ r .passed ≡ receivedInOrder n (now (by .entry)) (now (to .entry)) (now (received .entry)) room ⌝ }
+    ensures { λ r. ⌜ (r .passed ≡ true → r .payable ≡ noticeOf n (now (by .entry)) (now (to .entry)) .payable) ⌝ }
+{
+    if !in_order(by, to, n, shorter(received.len(), room)) {
+        let none = [0u64; PLACES];
+        return Checked {
+            passed: false,
+            payable: none,
+        };
+    }
+    let noticed = notice_of(by, to, n);
+    let payable = noticed.payable;
+    let received_row = row_of(received);
+    let passed = each_at_most(received_row, payable, n);
+    Checked { passed, payable }
+}
+
+// Whether the claims, what was paid of them and the money that comes late are in order.
+pub fn late_in_order(
+    to: &[u64],
+    claims: &[u64],
+    paid: &[u64],
+    money: u64,
+    n: usize,
+    room: usize,
+) -> bool
+    ensures { λ r. ⌜ r ≡ lateInOrder n (now (to .entry)) (now (claims .entry)) (now (paid .entry)) money room ⌝ }
+{
+    if !tiers_in_order(to, n, shorter(claims.len(), shorter(paid.len(), room))) {
+        return false;
+    }
+    let to_cells = tier_cells_of(to);
+    let owing = over_tiers(to_cells, n);
+    let claims_row = row_of(claims);
+    if !each_at_most(claims_row, owing, n) {
+        return false;
+    }
+    let paid_row = row_of(paid);
+    if !each_at_most(paid_row, claims_row, n) {
+        return false;
+    }
+    let unpaid = excesses(claims_row, paid_row, n);
+    money <= total(unpaid, n)
 }
 
 // Amounts and divisors of an exact proportion are below this.

@@ -1,19 +1,18 @@
-// Slices that a caller lends: their first cells taken into arrays, arrays put back, and their totals held to a side's limit.
+// Slices that a caller lends: their first cells taken into arrays, arrays put back, and their totals up to a side's limit.
 use exact::PLACES;
 use exact::Row;
 use exact::put_cells;
 use settlement::TIERS;
 use settlement::TierCells;
 ghost use mathlib.Core.Path.{_≡_};
-ghost use Prim.Native.Nat.{_≤_, min};
-ghost use lib.Dec.{leb};
+ghost use Prim.Native.Nat.{_+_, _≤_, min};
 ghost use lib.ListN.{length};
 ghost use Rattle.exact.specs.Rows.{places, at, sum};
 ghost use Rattle.settlement.specs.Month.{sideLimit};
 ghost use Rattle.exports.specs.Slices.{tierPlaces, front, written};
 
 // Each side's total over a period is at most this many cents (01, The month's sums).
-const SIDE_LIMIT: u64 = 10_000_000_000_000;
+pub const SIDE_LIMIT: u64 = 10_000_000_000_000;
 
 // The smaller of two lengths.
 pub fn shorter(a: usize, b: usize) -> usize
@@ -22,19 +21,19 @@ pub fn shorter(a: usize, b: usize) -> usize
     if a < b { a } else { b }
 }
 
-// Whether the first cells, so many, come to at most a side's limit.
-pub fn within(s: &[u64], count: usize) -> bool
+// The sum of the first cells, so many, or a cent above a side's limit where it passes that.
+pub fn side_total(s: &[u64], count: usize) -> u64
     requires { ⌜ count ≤ length (now s) ⌝ }
-    ensures { λ r. ⌜ r ≡ leb (sum (at (now (s .entry))) count) sideLimit ⌝ }
+    ensures { λ r. ⌜ r ≡ min (sum (at (now (s .entry))) count) (sideLimit + 1) ⌝ }
 {
-    let mut room = SIDE_LIMIT;
+    let mut total = 0u64;
     for i in 0..count {
-        if room < s[i] {
-            return false;
+        if SIDE_LIMIT - total < s[i] {
+            return SIDE_LIMIT + 1;
         }
-        room -= s[i];
+        total += s[i];
     }
-    true
+    total
 }
 
 // The first 64 cells.

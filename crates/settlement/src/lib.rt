@@ -14,6 +14,7 @@ pub use noticing::Noticed;
 pub use noticing::notice;
 pub use owing::TIERS;
 pub use owing::TierCells;
+pub use owing::over_tiers;
 pub use scaling::Scaled;
 pub use scaling::scale;
 pub use settling::Settled;

@@ -1,12 +1,11 @@
 use Prim.Native.Nat.{min}
 use mathlib.Core.Path.{_≡_, refl, sym, _∙_}
-use mathlib.Core.Bool.{true}
 use native.Mathlib.Omega.{arith}
 use lib.ListN.{length}
 use borrow.Author.Tests.{not-true, not-false}
 use Rattle.exports.specs.Slices.{left}
 use Rattle.exports.specs.Orders.{settlementInOrder, Sound}
-use Rattle.exports.proofs.OrderLaws.{Fitting, fitting}
+use Rattle.exports.proofs.OrderLaws.{Fitting, received-fitting}
 use borrow.Author.Needs.{needs}
 use Rattle.exports.proofs.clearing_scaled.Statement.{statement}
 use Rattle.exports.proofs.clearing_scaled.Tie as tie
@@ -17,34 +16,31 @@ shorter-requires c κs = search needs
 shorter-requires-2 : tie.Need-shorter-requires-2
 shorter-requires-2 c κs = search needs
 
-shorter-requires-3 : tie.Need-shorter-requires-3
-shorter-requires-3 c κs = search needs
+check-receipts-requires : tie.Need-check-receipts-requires
+check-receipts-requires c κs = search needs
 
-in-order-requires : tie.Need-in-order-requires
-in-order-requires c κs = search needs
-
--- the arguments are in order where the test is passed
-passed : (c : tie.Else1) → let a = c .before .before .before .before .before .before .before .before .before .before .before .args in settlementInOrder (a .n) (a .by .now) (a .to .now) (a .received .now) (a .revised .now) (a .above .now) (a .below .now) ≡ true
-passed c = not-false _ (rw (c .before .in-order .ensures, c .before .before .shorter3 .ensures, c .before .before .before .shorter2 .ensures, c .before .before .before .before .shorter .ensures) at (c .if1 .left))
+-- whether the arguments are in order
+checked : (c : tie.After-check-receipts) → let a = c .before .before .before .before .before .before .before .before .before .args in c .check-receipts .result .passed ≡ settlementInOrder (a .n) (a .by .now) (a .to .now) (a .received .now) (a .revised .now) (a .above .now) (a .below .now)
+checked c = rw (c .before .shorter2 .ensures, c .before .before .shorter .ensures) at (c .check-receipts .ensures .0)
 
 known : (c : tie.Else1) → let a = c .before .before .before .before .before .before .before .before .before .before .before .args in Fitting (Sound (a .n) (a .by .now) (a .to .now)) (min (length (a .received .now)) (min (length (a .revised .now)) (min (length (a .above .now)) (length (a .below .now)))))
-known c = fitting _ _ _ _ (passed c)
+known c = received-fitting _ _ _ _ _ (sym (checked (c .before .before)) ∙ not-false _ (c .if1 .left))
 
 returns : tie.Need-returns
 unfolding left
-returns c = (sym (not-true _ (rw (c .before .in-order .ensures, c .before .before .shorter3 .ensures, c .before .before .before .shorter2 .ensures, c .before .before .before .before .shorter .ensures) at (c .if1 .taken))), (refl, (refl, refl)))
+returns c = (sym (sym (checked (c .before .before)) ∙ not-true _ (c .if1 .taken)), (refl, (refl, refl)))
 
 scaled-of-requires : tie.Need-scaled-of-requires
-scaled-of-requires c κs = (known c .sound, omega (arith, known c .roomy))
+scaled-of-requires c κs = let k = known (c .before) in (k .sound, omega (arith, k .roomy), c .before .before .before .check-receipts .ensures .1 (not-false _ (c .before .if1 .left)))
 
 put-row-requires : tie.Need-put-row-requires
-put-row-requires c κs = omega (arith, known (c .before .before .before .before .before) .roomy)
+put-row-requires c κs = omega (arith, known (c .before .before .before .before .before .before) .roomy)
 
 put-row-requires-2 : tie.Need-put-row-requires-2
-put-row-requires-2 c κs = omega (arith, known (c .before .before .before .before .before .before .before .before .before) .roomy)
+put-row-requires-2 c κs = omega (arith, known (c .before .before .before .before .before .before .before .before .before .before) .roomy)
 
 put-row-requires-3 : tie.Need-put-row-requires-3
-put-row-requires-3 c κs = omega (arith, known (c .before .before .before .before .before .before .before .before .before .before .before .before .before) .roomy)
+put-row-requires-3 c κs = omega (arith, known (c .before .before .before .before .before .before .before .before .before .before .before .before .before .before) .roomy)
 
 same-length : tie.Need-same-length
 same-length c = search needs
@@ -59,7 +55,7 @@ returns-2 : tie.Need-returns-2
 unfolding left
 returns-2 c =
     let s = c .before .before .before .before .before .before .before .before .before .before .before .before .before .before .before in
-    let e = passed (s .before) in
+    let e = sym (checked (s .before .before .before .before)) ∙ not-false _ (s .before .before .if1 .left) in
     (sym e, (c .before .before .before .before .before .before .before .before .before .before .put-row .ensures ∙ rw (s .scaled-of .ensures) refl, (c .before .before .before .before .before .before .put-row2 .ensures ∙ rw (s .scaled-of .ensures) refl, c .before .before .put-row3 .ensures ∙ rw (s .scaled-of .ensures) refl)))
 
 pub clearing-scaled-spec : {M : Type 1} → statement M
@@ -68,8 +64,7 @@ clearing-scaled-spec =
     (tie.spec
     shorter-requires
     shorter-requires-2
-    shorter-requires-3
-    in-order-requires
+    check-receipts-requires
     returns
     scaled-of-requires
     put-row-requires

@@ -1,6 +1,6 @@
 use Prim.Native.Nat.{min}
-use mathlib.Core.Path.{_≡_, refl, _∙_}
-use mathlib.Core.Bool.{true, false}
+use mathlib.Core.Path.{_≡_, refl, sym, _∙_}
+use mathlib.Core.Bool.{true}
 use native.Mathlib.Omega.{arith}
 use lib.ListN.{length}
 use lib.Dec.{leb}
@@ -11,7 +11,7 @@ use Rattle.settlement.specs.Settling.{rounds}
 use Rattle.settlement.proofs.Laws.{retention-sound, rounds-le}
 use Rattle.exports.specs.Slices.{rowOf, monthOf, left}
 use Rattle.exports.specs.Orders.{settlementInOrder, Sound}
-use Rattle.exports.proofs.OrderLaws.{Fitting, fitting}
+use Rattle.exports.proofs.OrderLaws.{Fitting, received-fitting}
 use borrow.Author.Needs.{needs}
 use Rattle.exports.proofs.clearing_settle.Statement.{statement}
 use Rattle.exports.proofs.clearing_settle.Tie as tie
@@ -22,39 +22,31 @@ shorter-requires c κs = search needs
 shorter-requires-2 : tie.Need-shorter-requires-2
 shorter-requires-2 c κs = search needs
 
-shorter-requires-3 : tie.Need-shorter-requires-3
-shorter-requires-3 c κs = search needs
+check-receipts-requires : tie.Need-check-receipts-requires
+check-receipts-requires c κs = search needs
 
-in-order-requires : tie.Need-in-order-requires
-in-order-requires c κs = search needs
-
--- the arguments are in order where the test is passed
-passed : (c : tie.Else1) → let a = c .before .before .before .before .before .before .before .before .before .before .before .args in settlementInOrder (a .n) (a .by .now) (a .to .now) (a .received .now) (a .paid .now) (a .claims .now) (a .arrears .now) ≡ true
-passed c = not-false _ (rw (c .before .in-order .ensures, c .before .before .shorter3 .ensures, c .before .before .before .shorter2 .ensures, c .before .before .before .before .shorter .ensures) at (c .if1 .left))
+-- whether the arguments are in order
+checked : (c : tie.After-check-receipts) → let a = c .before .before .before .before .before .before .before .before .before .args in c .check-receipts .result .passed ≡ settlementInOrder (a .n) (a .by .now) (a .to .now) (a .received .now) (a .paid .now) (a .claims .now) (a .arrears .now)
+checked c = rw (c .before .shorter2 .ensures, c .before .before .shorter .ensures) at (c .check-receipts .ensures .0)
 
 known : (c : tie.Else1) → let a = c .before .before .before .before .before .before .before .before .before .before .before .args in Fitting (Sound (a .n) (a .by .now) (a .to .now)) (min (length (a .received .now)) (min (length (a .paid .now)) (min (length (a .claims .now)) (length (a .arrears .now)))))
-known c = fitting _ _ _ _ (passed c)
+known c = received-fitting _ _ _ _ _ (sym (checked (c .before .before)) ∙ not-false _ (c .if1 .left))
 
 returns : tie.Need-returns
 unfolding left
-returns c =
-    let a = c .before .before .before .before .before .before .before .before .before .before .before .args in
-    let e : settlementInOrder (a .n) (a .by .now) (a .to .now) (a .received .now) (a .paid .now) (a .claims .now) (a .arrears .now) ≡ false =
-    not-true _ (rw (c .before .in-order .ensures, c .before .before .shorter3 .ensures, c .before .before .before .shorter2 .ensures, c .before .before .before .before .shorter .ensures) at (c .if1 .taken))
-    in
-    (rw e refl, (refl, (refl, refl)))
+returns c = (rw (sym (checked (c .before .before)) ∙ not-true _ (c .if1 .taken)) refl, (refl, (refl, refl)))
 
 settled-of-requires : tie.Need-settled-of-requires
-settled-of-requires c κs = (known c .sound, omega (arith, known c .roomy))
+settled-of-requires c κs = let k = known (c .before) in (k .sound, omega (arith, k .roomy), c .before .before .before .check-receipts .ensures .1 (not-false _ (c .before .if1 .left)))
 
 put-row-requires : tie.Need-put-row-requires
-put-row-requires c κs = omega (arith, known (c .before .before .before .before .before) .roomy)
+put-row-requires c κs = omega (arith, known (c .before .before .before .before .before .before) .roomy)
 
 put-row-requires-2 : tie.Need-put-row-requires-2
-put-row-requires-2 c κs = omega (arith, known (c .before .before .before .before .before .before .before .before .before) .roomy)
+put-row-requires-2 c κs = omega (arith, known (c .before .before .before .before .before .before .before .before .before .before) .roomy)
 
 put-row-requires-3 : tie.Need-put-row-requires-3
-put-row-requires-3 c κs = omega (arith, known (c .before .before .before .before .before .before .before .before .before .before .before .before .before) .roomy)
+put-row-requires-3 c κs = omega (arith, known (c .before .before .before .before .before .before .before .before .before .before .before .before .before .before) .roomy)
 
 same-length : tie.Need-same-length
 same-length c = search needs
@@ -68,16 +60,17 @@ same-length-3 c = search needs
 -- the rounds of arguments in order are at most 64
 few-rounds : (c : tie.After-settled-of) → leb (c .settled-of .result .rounds) places ≡ true
 few-rounds c =
-    let a = c .before .before .before .before .before .before .before .before .before .before .before .before .args in
+    let a = c .before .before .before .before .before .before .before .before .before .before .before .before .before .args in
     let m = monthOf (a .n) (a .by .now) (a .to .now) in
-    rw (c .settled-of .ensures) (le-leb (rounds m (retention m) (rowOf (a .received .now))) places (omega (arith, rounds-le m (retention m) (rowOf (a .received .now)) (retention-sound m), known (c .before) .sound .to-side .few)))
+    rw (c .settled-of .ensures) (le-leb (rounds m (retention m) (rowOf (a .received .now))) places (omega (arith, rounds-le m (retention m) (rowOf (a .received .now)) (retention-sound m), known (c .before .before) .sound .to-side .few)))
 
 returns-2 : tie.Need-returns-2
 unfolding left
 returns-2 c =
     let s = c .before .before .before .before .before .before .before .before .before .before .before .before .before .before .before in
+    let e = sym (checked (s .before .before .before .before)) ∙ not-false _ (s .before .before .if1 .left) in
     let f = few-rounds s in
-    (rw (passed (s .before), s .settled-of .ensures) refl, (c .before .before .before .before .before .before .before .before .before .before .put-row .ensures ∙ rw (f, s .settled-of .ensures) refl, (c .before .before .before .before .before .before .put-row2 .ensures ∙ rw (f, s .settled-of .ensures) refl, c .before .before .put-row3 .ensures ∙ rw (f, s .settled-of .ensures) refl)))
+    (rw (e, s .settled-of .ensures) refl, (c .before .before .before .before .before .before .before .before .before .before .put-row .ensures ∙ rw (f, s .settled-of .ensures) refl, (c .before .before .before .before .before .before .put-row2 .ensures ∙ rw (f, s .settled-of .ensures) refl, c .before .before .put-row3 .ensures ∙ rw (f, s .settled-of .ensures) refl)))
 
 pub clearing-settle-spec : {M : Type 1} → statement M
 clearing-settle-spec =
@@ -85,8 +78,7 @@ clearing-settle-spec =
     (tie.spec
     shorter-requires
     shorter-requires-2
-    shorter-requires-3
-    in-order-requires
+    check-receipts-requires
     returns
     settled-of-requires
     put-row-requires

@@ -2,7 +2,7 @@ use mathlib.Core.Path.{_≡_, sym, _∙_}
 use mathlib.Core.Bool.{true}
 use native.Mathlib.Omega.{arith}
 use borrow.Author.Tests.{not-true, not-false, lt-leb}
-use Rattle.exports.specs.Orders.{tiersInOrder, inOrder}
+use Rattle.exports.specs.Orders.{TiersSound, allOf, tiersInOrder, inOrder}
 use Rattle.exports.proofs.OrderLaws.{tiers-fitting, tested}
 use borrow.Author.Needs.{needs}
 use Rattle.exports.proofs.orders.in_order.Statement.{statement}
@@ -15,20 +15,39 @@ tiers-in-order-requires c κs = search needs
 passed : (c : tie.Else1) → let a = c .before .before .before .before .args in tiersInOrder (a .n) (a .to .now) (a .room) ≡ true
 passed c = sym (c .before .tiers-in-order .ensures) ∙ not-false _ (c .if1 .left)
 
+known : (c : tie.Else1) → let a = c .before .before .before .before .args in TiersSound (a .n) (a .to .now)
+known c = tiers-fitting _ _ _ (passed c) .sound
+
 returns : tie.Need-returns
-unfolding inOrder
+unfolding allOf inOrder
 returns c = simp (sym (c .before .tiers-in-order .ensures) ∙ not-true _ (c .if1 .taken))
 
 returns-2 : tie.Need-returns-2
-unfolding inOrder
+unfolding allOf inOrder
 returns-2 c = simp (passed (c .before), lt-leb _ _ (c .if2 .taken))
 
-within-requires : tie.Need-within-requires
-within-requires c κs = omega (arith, tiers-fitting _ _ _ (passed (c .before)) .sound .few, c .if2 .left)
+side-total-requires : tie.Need-side-total-requires
+side-total-requires c κs = omega (arith, known (c .before) .few, c .if2 .left)
+
+mul-side-total : tie.Need-mul-side-total
+mul-side-total c = omega (arith, known (c .before .before) .few)
+
+side-total-requires-2 : tie.Need-side-total-requires-2
+side-total-requires-2 c κs = omega (arith, known (c .before .before) .few, known (c .before .before) .long)
 
 returns-3 : tie.Need-returns-3
-returns-3 c = c .within .ensures ∙ tested _ _ _ _ (passed (c .before .before)) (c .before .if2 .left)
+returns-3 c =
+    rw (c .before .side-total .ensures, c .side-total2 .ensures)
+    (tested _ _ _ _ (passed (c .before .before .before)) (c .before .before .if2 .left))
 
 pub in-order-spec : {M : Type 1} → statement M
 in-order-spec =
-    tie.close (tie.spec tiers-in-order-requires returns returns-2 within-requires returns-3)
+    tie.close
+    (tie.spec
+    tiers-in-order-requires
+    returns
+    returns-2
+    side-total-requires
+    mul-side-total
+    side-total-requires-2
+    returns-3)
