@@ -31,7 +31,7 @@ array-read-if1-2 : tie.Need-array-read-if1-2 Inv-loop μ-loop
 array-read-if1-2 c = search needs
 
 returns : tie.Need-returns Inv-loop μ-loop
-returns c = sym (each-fails _ _ _ (c .before .before .loop .i) (omega arith) (c .if1 .taken))
+returns c = sym (each-fails _ _ _ (c .before .before .loop .i) (omega arith) (omega (arith, c .if1 .taken)))
 
 add-i : tie.Need-add-i Inv-loop μ-loop
 add-i c = search needs
@@ -40,7 +40,7 @@ loop-less : tie.Need-loop-less Inv-loop μ-loop
 loop-less c = search needs
 
 loop-again : tie.Need-loop-again Inv-loop μ-loop
-loop-again c = (search needs, each-more _ _ _ (c .before .before .loop .inv .1) (c .if1 .left))
+loop-again c = (search needs, each-more _ _ _ (c .before .before .loop .inv .1) (omega (arith, c .if1 .left)))
 
 returns-2 : tie.Need-returns-2 Inv-loop μ-loop
 returns-2 c =
