@@ -18,11 +18,10 @@ use Rattle.book.specs.rules.Refusals.{Input, Entered, periodChecks, barr
 use Rattle.book.specs.rules.Step.{moved, accepted}
 use Rattle.book.specs.rules.Valid.{Valid, Sound}
 use Rattle.book.specs.declared.entries.Entry.{Entry}
-use Rattle.book.specs.declared.entries.Entry.the-variants.{Receipt}
 use Rattle.book.specs.declared.Period.{Period}
 use Rattle.book.specs.declared.Book.{Book}
 use Rattle.book.proofs.layouts.EntryLaws.{of-kind}
-use Rattle.book.proofs.rules.Passing.{allowed-inside}
+use Rattle.book.proofs.rules.Passing.{receipt-inside}
 use Rattle.book.proofs.rules.ChangeLaws.{Changes}
 use Rattle.book.proofs.rules.StepLaws.{Names, accepted-names}
 use Rattle.book.proofs.rules.ValidLaws.{named-changes}
@@ -34,7 +33,7 @@ use Rattle.book.proofs.records.Replies.{to-period, held-replaced, held-
 pub cents-within : (e : Entry) → allowed e ≡ true → receiptCents e ≤ centsLimit
 unfolding entryOf
 cents-within e a = cases (λ (c : ℕ). c ≤ centsLimit) (isReceipt e)
-    (λ q. of-kind (λ (e : Entry). allowed e ≡ true → field e 2 ≤ centsLimit) 5 e (eqb-true (kindOf e) 5 q) (λ a. allowed-inside (Receipt (field e 0) (field e 1) (field e 2)) a .1) a)
+    (λ q. of-kind (λ (e : Entry). allowed e ≡ true → field e 2 ≤ centsLimit) 5 e (eqb-true (kindOf e) 5 q) (λ a. receipt-inside (field e 0) (field e 1) (field e 2) a .1) a)
     (λ _. omega arith)
 
 -- the entry names the period at place j, which is in use

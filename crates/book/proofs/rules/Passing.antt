@@ -16,8 +16,7 @@ use Rattle.book.specs.rules.Refusals.{receivable, amountChecks, noticeCh
 use Rattle.book.specs.inner.OnePeriod.{Placed}
 use Rattle.book.specs.declared.Stage.{Stage}
 use Rattle.book.specs.declared.Stage.the-variants.{Opened, Noticed, Settled}
-use Rattle.book.specs.declared.entries.Entry.{Entry}
-use Rattle.book.specs.declared.entries.Entry.the-variants.{Open, Energy, Amount, Notice, Receipt, Settle}
+use Rattle.book.specs.declared.entries.Entry.the-variants.{Energy, Amount, Receipt}
 use Rattle.book.specs.declared.kinds.Addition.{Addition}
 use Rattle.book.specs.declared.Period.{Period}
 use Rattle.book.proofs.rules.CheckLaws.{all-pass, none-false}
@@ -51,38 +50,29 @@ tier-inside : (tier : ℕ) → tierOutside 1 tier ≡ false → (0 < tier) × (t
 tier-inside zero e = absurd (true≢false e)
 tier-inside (suc t) e = (omega arith, ltb-false tiers (suc t) (rw (eqb·suc-zero t) at e))
 
-pub amount-placed : (k i side tier cents : ℕ) → allowed (Amount k i side tier cents) ≡ true → Placed side tier
-amount-placed k i side tier cents e =
-    let f = none-false (outside (Amount k i side tier cents)) e in
-    placed side tier (ltb-false 1 side (f .1 .0)) (λ q. tier-inside tier (subst (λ s. tierOutside s tier ≡ false) q (f .1 .1 .0)))
+-- what is known of the fields of an allowed entry
+pub energy-inside : (k i side quantity price : ℕ) → allowed (Energy k i side quantity price) ≡ true
+    → (i < places) × Placed side tiers × (quantity ≤ quantityLimit) × (price ≤ priceLimit)
+energy-inside k i side quantity price e =
+    let f = none-false (outside (Energy k i side quantity price)) e in (
+      leb-false places i (f .0),
+      placed side tiers (ltb-false 1 side (f .1 .0)) (λ _. (omega arith, omega arith)),
+      ltb-false quantityLimit quantity (f .1 .1 .0),
+      ltb-false priceLimit price (f .1 .1 .1 .0),
+    )
 
-pub energy-placed : (k i side quantity price : ℕ) → allowed (Energy k i side quantity price) ≡ true → Placed side tiers
-energy-placed k i side quantity price e =
-    let f = none-false (outside (Energy k i side quantity price)) e in
-    placed side tiers (ltb-false 1 side (f .1 .0)) (λ _. (omega arith, omega arith))
+pub amount-inside : (k i side tier cents : ℕ) → allowed (Amount k i side tier cents) ≡ true → (i < places) × Placed side tier × (cents ≤ centsLimit)
+amount-inside k i side tier cents e =
+    let f = none-false (outside (Amount k i side tier cents)) e in (
+      leb-false places i (f .0),
+      placed side tier (ltb-false 1 side (f .1 .0)) (λ q. tier-inside tier (subst (λ s. tierOutside s tier ≡ false) q (f .1 .1 .0))),
+      ltb-false centsLimit cents (f .1 .1 .1 .1 .0),
+    )
 
--- the values that an allowed entry's fields have
-abbrev pub Inside : Entry → Type 0
-Inside (Open k) = Unit {0}
-Inside (Energy k i side quantity price) = (i < places) × (side < 2) × (quantity ≤ quantityLimit) × (price ≤ priceLimit)
-Inside (Amount k i side tier cents) = (i < places) × (side < 2) × (cents ≤ centsLimit)
-Inside (Notice k) = Unit {0}
-Inside (Receipt k i cents) = (i < places) × (cents ≤ centsLimit)
-Inside (Settle k) = Unit {0}
-
-pub allowed-inside : (e : Entry) → allowed e ≡ true → Inside e
-allowed-inside (Open k) e = tt
-allowed-inside (Energy k i side quantity price) e =
-    let f = none-false (outside (Energy k i side quantity price)) e in
-    (leb-false places i (f .0), omega (arith, ltb-false 1 side (f .1 .0)), ltb-false quantityLimit quantity (f .1 .1 .0), ltb-false priceLimit price (f .1 .1 .1 .0))
-allowed-inside (Amount k i side tier cents) e =
-    let f = none-false (outside (Amount k i side tier cents)) e in
-    (leb-false places i (f .0), omega (arith, ltb-false 1 side (f .1 .0)), ltb-false centsLimit cents (f .1 .1 .1 .1 .0))
-allowed-inside (Notice k) e = tt
-allowed-inside (Receipt k i cents) e =
+pub receipt-inside : (k i cents : ℕ) → allowed (Receipt k i cents) ≡ true → (i < places) × (cents ≤ centsLimit)
+receipt-inside k i cents e =
     let f = none-false (outside (Receipt k i cents)) e in
     (leb-false places i (f .0), ltb-false centsLimit cents (f .1 .1 .0))
-allowed-inside (Settle k) e = tt
 
 -- n participants, and the period that the entry names
 module _ (n : ℕ) (p : Period) where

@@ -5,7 +5,7 @@ use native.Mathlib.Omega.{arith}
 use Rattle.book.specs.Checks.{refusal}
 use Rattle.book.specs.rules.Refusals.{amountChecks}
 use Rattle.book.specs.declared.kinds.Addition.{Addition}
-use Rattle.book.proofs.rules.Passing.{allowed-inside}
+use Rattle.book.proofs.rules.Passing.{receipt-inside}
 use Rattle.book.proofs.rules.AdditionLaws.{amount-checks, Within, amount-within}
 use Rattle.book.proofs.rules.KindLaws.{not-kind}
 use Rattle.book.proofs.rules.ChangeLaws.{total-within}
@@ -59,7 +59,8 @@ cast-receipt-answer c = search needs
 receipt-answer-requires : tie.Need-receipt-answer-requires
 receipt-answer-requires c κs =
     let s = c .before .before .before .before .before in
-    (rw (c .before .e .given .1) at (allowed-inside (s .args .e) (s .pre .1))) .0
+    let v = c .before .e .given .0 in
+    receipt-inside (v .0) (v .1 .0) (v .1 .1 .0) (rw (c .before .e .given .1) at (s .pre .1)) .0
 
 enum-told-2 : tie.Need-enum-told-2
 enum-told-2 c = search needs

@@ -1,6 +1,6 @@
 use mathlib.Core.Path.{_∙_}
 use mathlib.Core.List.{[], _∷_}
-use Rattle.book.proofs.rules.Passing.{allowed-inside}
+use Rattle.book.proofs.rules.Passing.{receipt-inside}
 use borrow.Author.Needs.{needs}
 use Rattle.book.proofs.rules.KindLaws.{not-kind}
 use Rattle.book.proofs.steps.is_barred.Statement.{statement}
@@ -15,7 +15,8 @@ cast-has-earlier-arrears c = search needs
 has-earlier-arrears-requires : tie.Need-has-earlier-arrears-requires
 has-earlier-arrears-requires c κs =
     let s = c .before .before .before in
-    (s .pre .0, (rw (c .before .e .given .1) at (allowed-inside (s .args .e) (s .pre .1))) .0)
+    let v = c .before .e .given .0 in
+    (s .pre .0, receipt-inside (v .0) (v .1 .0) (v .1 .1 .0) (rw (c .before .e .given .1) at (s .pre .1)) .0)
 
 returns : tie.Need-returns
 returns c = c .has-earlier-arrears .ensures ∙ rw (c .before .before .e .given .1)
