@@ -17,7 +17,7 @@ use Rattle.book.specs.rules.Step.{payoutWords}
 use Rattle.book.specs.rules.Valid.{InBook}
 use Rattle.book.specs.rules.Answers.{numberOf}
 use Rattle.book.specs.declared.changes.Change.{Change}
-use Rattle.book.specs.declared.effects.Effect as affecting
+use Rattle.book.specs.declared.effects.Effect as effects
 use Rattle.book.specs.declared.entries.Entry.{Entry}
 use Rattle.book.specs.declared.Period.{Period}
 
@@ -78,5 +78,5 @@ pub record Affects (n : ℕ) (e : Entry) (p : Period) (held : ℕ) (words : List
   pub fits : held + receiptCents e < 2 ^ 64
 
 -- 01's numbers and values of an effect, with the payout words as it leaves them
-abbrev pub effectOf : affecting.Effect → List ℕ → Effect
+abbrev pub effectOf : effects.Effect → List ℕ → Effect
 effectOf r words = record { answer = numberOf (r .answer); rounds = r .rounds; period = r .period; held = r .held; paid = r .paid; words = words }
