@@ -7,7 +7,7 @@ pub use Rattle.book.proofs.layouts.Outcomes.{read-one-to-one, write-one
 pub use Rattle.book.proofs.rules.ValidLaws.{stays-valid, refusal-changes-nothing, rounds-of-settlements}
 -- demand 3, of entries one after the other and of block runs among them
 pub use Rattle.book.proofs.history.Demand3.{demand3}
-pub use Rattle.book.proofs.runs.RunDemand3.{block-runs}
+pub use Rattle.book.proofs.runs.BlockRuns.{block-runs}
 -- what a run leaves of its room
 pub use Rattle.book.proofs.runs.RunValid.{Within, run-within}
 -- examples

@@ -6,3 +6,4 @@ pub mod PostingTurns
 pub mod PostingLaws
 pub mod RunReplies
 pub mod RunDemand3
+pub mod BlockRuns

@@ -1,3 +1,3 @@
 pub mod Running
-pub mod RunReplies
 pub mod RunDemand3
+pub mod BlockRuns

@@ -1,12 +1,12 @@
--- Block runs leave what the same entries leave one by one, and so demand 3 holds of them; with it, all that is claimed of block runs.
+-- Block runs leave what the same entries leave one by one, and so demand 3 holds of them.
 use mathlib.Core.Path.{_≡_, refl, sym, ap, subst, _∙_}
 use mathlib.Core.Logic.{inl, inr}
 use mathlib.Core.List.{List, [], _∷_, _++_}
 use Rattle.book.specs.rules.Refusals.{Input}
 use Rattle.book.specs.history.Demand3.{History, begun, next, after, Clauses}
 use Rattle.book.specs.runs.RunDemand3.{Block, entriesIn, Work, afterRun, afterWork, afterAll, RunDemand3}
-use Rattle.book.specs.runs.RunReplies.{replies, bookAfter, BlockRuns}
-use Rattle.book.proofs.runs.RunReplies.{ran-replies, run-paid, begun-paid}
+use Rattle.book.specs.runs.BlockRuns.{replies, bookAfter}
+use Rattle.book.proofs.runs.RunReplies.{ran-replies}
 use Rattle.book.proofs.history.Demand3.{demand3}
 
 after-both : (h : History) (l r : List Input) → after h (l ++ r) ≡ after (after h l) r
@@ -38,6 +38,3 @@ all-after h (inr x ∷ work) =
 
 pub run-demand3 : RunDemand3
 run-demand3 m work = let l = all-after (begun m) work in subst (Clauses (m .n)) (sym (l .1)) (demand3 m (l .0))
-
-pub block-runs : BlockRuns
-block-runs = record { demand3 = run-demand3; each = ran-replies; paid = λ h x. run-paid (h .book .n) h x (inr refl); all-paid = begun-paid }

@@ -5,7 +5,7 @@ use mathlib.Core.Bool.{Bool, true, false, cond}
 use mathlib.Core.Logic.{_⊎_, inl, inr, ⊎-elim}
 use mathlib.Core.List.{List, [], _∷_, _++_}
 use native.Mathlib.Omega.{arith}
-use borrow.Author.Tests.{ne-eqb, eqb-true}
+use borrow.Author.Tests.{ne-eqb, eqb-true, eqb-false}
 use lib.Dec.{eqb}
 use Rattle.exact.specs.Rows.{at, sum}
 use Rattle.exact.proofs.Cases.{cases, cases-eq}
@@ -18,7 +18,7 @@ use Rattle.book.specs.runs.Running.{Run, paidBy, lineOf, stopped, lined,
 use Rattle.book.specs.history.Log.{Accepted, Log, moneyPaid}
 use Rattle.book.specs.history.Demand3.{History, begun, next, after}
 use Rattle.book.specs.runs.RunDemand3.{Block, ran, entriesIn, afterRun, Work, afterWork, afterAll}
-use Rattle.book.specs.runs.RunReplies.{replies, bookAfter, wordsAfter, linesOf, paidWords, total, RunOf, paidAt, paidOver}
+use Rattle.book.specs.runs.BlockRuns.{replies, bookAfter, wordsAfter, linesOf, paidWords, total, RunOf, paidAt, paidOver}
 use Rattle.book.specs.declared.Book.{Book}
 use Rattle.book.proofs.rules.StepLaws.{enters, step-answer}
 use Rattle.book.proofs.history.Histories.{step-n}
@@ -34,27 +34,49 @@ paid-words : (n : ℕ) (r : Reply) → 0 < paidBy n r → sum (at (r .words)) n 
 unfolding paidBy
 paid-words n r = cases (λ z. 0 < z → sum (at (r .words)) n ≡ z) (eqb (r .answer) 0) (λ _ _. refl) (λ _ h. absurd (omega arith))
 
-no-entry : (b : Book) (place : ℕ) (words : List ℕ) → RunOf b words [] (stopped b place words)
+no-entry : (b : Book) (x : Block) → (x .room < 3) ⊎ (reading (x .bytes) (x .place) .entry ≡ []) → RunOf b x [] (stopped b (x .place) (x .words))
 unfolding replies bookAfter wordsAfter linesOf paidWords total
-no-entry b place words = record { in-turn = tt; book = refl; words = refl; lines = refl; last = tt; payouts = λ h. absurd (omega arith) }
+no-entry b x e = record {
+  read = refl;
+  few = omega arith;
+  ended = ⊎-elim (λ h. inl h) (λ h. inr (inl h)) e;
+  in-turn = tt;
+  book = refl;
+  words = refl;
+  lines = refl;
+  last = tt;
+  payouts = λ h. absurd (omega arith);
+}
 
 -- an entry that has paid nothing and what follows it, or one with which the run ends
-module _ (b : Book) (x : Input) where
-  goes-on : (inputs : List Input) (r : Run) → paidBy (b .n) (reply b x) ≡ 0 → RunOf (reply b x .book) (reply b x .words) inputs r
-      → RunOf b (x .words) (x ∷ inputs) (lined (lineOf (b .n) (reply b x)) r)
+module _ (bytes : List ℕ) (place room : ℕ) (b : Book) (x : Input) (q : reading bytes place .entry ≡ x .entry ∷ []) where
+  abbrev whole : Block
+  whole = record { bytes = bytes; place = place; words = x .words; room = suc (suc (suc room)) }
+
+  abbrev rest : Block
+  rest = record { bytes = bytes; place = reading bytes place .place; words = reply b x .words; room = room }
+
+  goes-on : (inputs : List Input) (r : Run) → paidBy (b .n) (reply b x) ≡ 0 → RunOf (reply b x .book) rest inputs r
+      → RunOf b whole (x ∷ inputs) (lined (lineOf (b .n) (reply b x)) r)
   unfolding replies bookAfter wordsAfter linesOf paidWords total
-  goes-on inputs r q u = record {
+  goes-on inputs r z u = record {
+    read = (q, u .read);
+    few = omega (arith, u .few);
+    ended = ⊎-elim (λ h. inl (omega arith)) (λ e. inr (⊎-elim (λ h. inl h) (λ h. inr (omega arith)) e)) (u .ended);
     in-turn = (refl, u .in-turn);
     book = u .book;
     words = u .words;
     lines = ap (λ l. lineOf (b .n) (reply b x) ++ l) (rw (reply-n b x) at (u .lines));
-    last = (inl q, u .last);
+    last = (inl z, u .last);
     payouts = λ h. let same = rw (reply-n b x) at (u .payouts (omega arith)) in omega arith;
   }
 
-  ends : (place : ℕ) → RunOf b (x .words) (x ∷ []) (lined (lineOf (b .n) (reply b x)) (stopped (reply b x .book) place (reply b x .words)))
+  ends : (paidBy (b .n) (reply b x) ≡ 0 → ⊥) → RunOf b whole (x ∷ []) (lined (lineOf (b .n) (reply b x)) (stopped (reply b x .book) (rest .place) (reply b x .words)))
   unfolding replies bookAfter wordsAfter linesOf paidWords total
-  ends place = record {
+  ends paid = record {
+    read = (q, refl);
+    few = omega arith;
+    ended = inr (inr (omega (arith, paid)));
     in-turn = (refl, tt);
     book = refl;
     words = refl;
@@ -63,29 +85,29 @@ module _ (b : Book) (x : Input) where
     payouts = λ h. omega (arith, paid-words (b .n) (reply b x) (omega arith));
   }
 
-  choose : (t : Bool) → eqb (paidBy (b .n) (reply b x)) 0 ≡ t → (place : ℕ) (inputs : List Input) (r : Run)
-      → RunOf (reply b x .book) (reply b x .words) inputs r
-      → RunOf b (x .words) (x ∷ cond t inputs []) (lined (lineOf (b .n) (reply b x)) (cond t r (stopped (reply b x .book) place (reply b x .words))))
-  choose true q place inputs r u = goes-on inputs r (eqb-true _ _ q) u
-  choose false q place inputs r u = ends place
+  choose : (t : Bool) → eqb (paidBy (b .n) (reply b x)) 0 ≡ t → (inputs : List Input) (r : Run) → RunOf (reply b x .book) rest inputs r
+      → RunOf b whole (x ∷ cond t inputs []) (lined (lineOf (b .n) (reply b x)) (cond t r (stopped (reply b x .book) (rest .place) (reply b x .words))))
+  choose true z inputs r u = goes-on inputs r (eqb-true _ _ z) u
+  choose false z inputs r u = ends (eqb-false _ _ z)
 
 module _ (bytes : List ℕ) where
-  run-replies : (room : ℕ) (b : Book) (place : ℕ) (words : List ℕ) → RunOf b words (inputsOf bytes room b place words) (run bytes room b place words)
+  run-replies : (room : ℕ) (b : Book) (place : ℕ) (words : List ℕ)
+      → RunOf b (record { bytes = bytes; place = place; words = words; room = room }) (inputsOf bytes room b place words) (run bytes room b place words)
   unfolding run inputsOf
-  run-replies zero b place words = no-entry b place words
-  run-replies (suc zero) b place words = no-entry b place words
-  run-replies (suc (suc zero)) b place words = no-entry b place words
+  run-replies zero b place words = no-entry b (record { bytes = bytes; place = place; words = words; room = 0 }) (inl (omega arith))
+  run-replies (suc zero) b place words = no-entry b (record { bytes = bytes; place = place; words = words; room = 1 }) (inl (omega arith))
+  run-replies (suc (suc zero)) b place words = no-entry b (record { bytes = bytes; place = place; words = words; room = 2 }) (inl (omega arith))
   run-replies (suc (suc (suc room))) b place words = ⊎-elim
-      (λ none. rw none (no-entry b place words))
+      (λ none. rw none (no-entry b (record { bytes = bytes; place = place; words = words; room = suc (suc (suc room)) }) (inr none)))
       (λ y. rw (y .1) (
       let x : Input = record { entry = y .0; words = words } in
       let r = reply b x in
       let k = reading bytes place .place in
-      choose b x (eqb (paidBy (b .n) r) 0) refl k (inputsOf bytes room (r .book) k (r .words)) (run bytes room (r .book) k (r .words))
+      choose bytes place room b x (y .1) (eqb (paidBy (b .n) r) 0) refl (inputsOf bytes room (r .book) k (r .words)) (run bytes room (r .book) k (r .words))
       (run-replies room (r .book) k (r .words))))
       (read-or-none bytes place)
 
-pub ran-replies : (b : Book) (x : Block) → RunOf b (x .words) (entriesIn b x) (ran b x)
+pub ran-replies : (b : Book) (x : Block) → RunOf b x (entriesIn b x) (ran b x)
 ran-replies b x = run-replies (x .bytes) (x .room) b (x .place) (x .words)
 
 -- the book has n participants, or none, where its making was refused

@@ -1,9 +1,11 @@
 -- What block runs leave, by the replies to their entries: lines, payout words and the money paid (01, The list of demand 3).
-use Prim.Native.Nat.{ℕ, _+_, _<_}
+use Prim.Native.Nat.{ℕ, _+_, _≤_, _<_}
 use mathlib.Core.Path.{_≡_}
 use mathlib.Core.Logic.{_⊎_, inl, inr}
 use mathlib.Core.List.{List, [], _∷_, _++_}
+use lib.ListN.{length}
 use Rattle.exact.specs.Rows.{at, sum}
+use Rattle.book.specs.layouts.Reading.{reading}
 use Rattle.book.specs.rules.State.{Making}
 use Rattle.book.specs.rules.Refusals.{Input}
 use Rattle.book.specs.rules.Step.{Reply, reply}
@@ -55,11 +57,21 @@ abbrev pub LastAlone : List ℕ → Type 0
 LastAlone [] = Unit {0}
 LastAlone (x ∷ l) = ((x ≡ 0) ⊎ (l ≡ [])) × LastAlone l
 
--- r is the run of these entries, from the book b with the payout words lent
-pub record RunOf (b : Book) (lent : List ℕ) (inputs : List Input) (r : Run) : Type 0 where
-  pub in-turn : Lent b lent inputs
+-- the entries stand in the bytes one after the other, from a place on up to another
+abbrev pub Stand : List ℕ → ℕ → List Input → ℕ → Type 0
+Stand bytes place [] end = end ≡ place
+Stand bytes place (x ∷ inputs) end = (reading bytes place .entry ≡ x .entry ∷ []) × Stand bytes (reading bytes place .place) inputs end
+
+-- r is the run of these entries of a block, from the book b
+pub record RunOf (b : Book) (x : Block) (inputs : List Input) (r : Run) : Type 0 where
+  -- the entries are those of the bytes from the place on, up to where no further line has room, none can be read, or one has paid
+  pub read : Stand (x .bytes) (x .place) inputs (r .place)
+  pub few : length (r .lines) ≤ x .room
+  pub ended : (x .room < length (r .lines) + 3) ⊎ (reading (x .bytes) (r .place) .entry ≡ []) ⊎ (0 < total (paidWords (r .lines)))
+  -- what is left is that of their replies
+  pub in-turn : Lent b (x .words) inputs
   pub book : r .book ≡ bookAfter b (replies b inputs)
-  pub words : r .words ≡ wordsAfter lent (replies b inputs)
+  pub words : r .words ≡ wordsAfter (x .words) (replies b inputs)
   pub lines : r .lines ≡ linesOf (b .n) (replies b inputs)
   -- only the last line can have paid; where it has, the payout words, its entry's, come to its paid word
   pub last : LastAlone (paidWords (r .lines))
@@ -78,7 +90,7 @@ paidOver h (x ∷ work) = paidAt (h .book) x + paidOver (afterWork h x) work
 -- all that is claimed of block runs, alone and among single entries
 pub record BlockRuns : Type 0 where
   pub demand3 : RunDemand3
-  pub each : (b : Book) (x : Block) → RunOf b (x .words) (entriesIn b x) (ran b x)
+  pub each : (b : Book) (x : Block) → RunOf b x (entriesIn b x) (ran b x)
   -- money paid, as demand 3 reckons it from the log, grows by the paid words of a run's lines ..
   pub paid : (h : History) (x : Block)
       → moneyPaid (h .book .n) (afterRun h x .log) ≡ moneyPaid (h .book .n) (h .log) + total (paidWords (ran (h .book) x .lines))
