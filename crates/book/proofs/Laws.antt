@@ -3,7 +3,8 @@
 -- reading and writing undo each other, and each answer has a number of its own
 pub use Rattle.book.proofs.layouts.RoundTrips.{written-then-read, read-then-written}
 pub use Rattle.book.proofs.layouts.Outcomes.{read-one-to-one, write-one-to-one, number-one-to-one}
--- every book that is handed back is valid; refusals; rounds
+-- no kind passes by the checks; every book that is handed back is valid; refusals; rounds
+pub use Rattle.book.proofs.rules.KindLaws.{every-kind}
 pub use Rattle.book.proofs.rules.ValidLaws.{stays-valid, refusal-changes-nothing, rounds-of-settlements}
 -- demand 3, of entries one after the other and of block runs among them
 pub use Rattle.book.proofs.history.Demand3.{demand3}

@@ -33,12 +33,18 @@ pub enum Entry {
     },
 }
 
-// Kinds that are told apart by their number.
+// The numbers of the kinds.
 pub const OPEN: usize = 1;
 
 pub const ENERGY: usize = 2;
 
 pub const AMOUNT: usize = 3;
+
+pub const NOTICE: usize = 4;
+
+pub const RECEIPT: usize = 5;
+
+pub const SETTLE: usize = 6;
 
 // One more than the highest kind; there is no kind 0.
 pub const KINDS: usize = 7;
@@ -51,28 +57,28 @@ pub fn kind_of(e: Entry) -> usize
     ensures { λ r. ⌜ r ≡ kindOf e ⌝ }
 {
     match e {
-        Entry::Open { period: _ } => 1,
+        Entry::Open { period: _ } => OPEN,
         Entry::Energy {
             period: _,
             participant: _,
             side: _,
             quantity: _,
             price: _,
-        } => 2,
+        } => ENERGY,
         Entry::Amount {
             period: _,
             participant: _,
             side: _,
             tier: _,
             cents: _,
-        } => 3,
-        Entry::Notice { period: _ } => 4,
+        } => AMOUNT,
+        Entry::Notice { period: _ } => NOTICE,
         Entry::Receipt {
             period: _,
             participant: _,
             cents: _,
-        } => 5,
-        Entry::Settle { period: _ } => 6,
+        } => RECEIPT,
+        Entry::Settle { period: _ } => SETTLE,
     }
 }
 

@@ -1,4 +1,4 @@
-// The places of a book: the only functions that know how many there are.
+// The places of a book: made, searched, filled and freed.
 ghost use mathlib.Core.Path.{_≡_};
 ghost use Prim.Native.Nat.{_<_, min};
 ghost use mathlib.Core.List.{[], _∷_};

@@ -22,8 +22,7 @@ use crate::periods::is_noticed;
 use crate::periods::is_opened;
 use crate::periods::is_settled;
 use exact::excess;
-
-const SIDE_LIMIT: u64 = 10_000_000_000_000;
+use settlement::SIDE_LIMIT;
 
 // 12, 9, 11: cents added to a side of that total, in a period at that stage.
 pub fn amount_answer(stage: Stage, total: u64, n: usize, i: usize, cents: u64) -> Answer

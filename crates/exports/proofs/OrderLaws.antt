@@ -12,7 +12,7 @@ use Rattle.exact.specs.Rows.{places, at, sum}
 use Rattle.exact.proofs.Cases.{le-or-lt, eq-or-ne}
 use Rattle.settlement.specs.Month.{tiers, sideLimit, Bounded}
 use Rattle.exports.specs.Slices.{tierPlaces, front, rowOf, owingOf, monthOf}
-use Rattle.exports.specs.Orders.{TiersSound, Sound, allOf, tiersInOrder, inOrder, receivedInOrder, lateInOrder}
+use Rattle.exports.specs.Orders.{TiersSound, Sound, allOf, owingInOrder, inOrder, receivedInOrder, lateMoneyInOrder}
 use Rattle.exports.proofs.SliceLaws.{front-sum, flat-sum}
 use Rattle.exports.proofs.EachLaws.{both-true}
 
@@ -30,8 +30,8 @@ pub record Fitting (P : Type 0) (room : ℕ) : Type 0 where
   pub sound : P
   pub roomy : places ≤ room
 
-pub tiers-fitting : (n : ℕ) (to : List ℕ) (room : ℕ) → tiersInOrder n to room ≡ true → Fitting (TiersSound n to) room
-unfolding tiersInOrder
+pub tiers-fitting : (n : ℕ) (to : List ℕ) (room : ℕ) → owingInOrder n to room ≡ true → Fitting (TiersSound n to) room
+unfolding owingInOrder
 tiers-fitting n to room h =
     let a = all-first _ _ h in
     let b = all-first _ _ (all-first _ _ (a .1) .1) in
@@ -58,9 +58,9 @@ pub received-fitting : (n : ℕ) (by to received : List ℕ) (room : ℕ) → re
 unfolding receivedInOrder
 received-fitting n by to received room h = fitting n by to _ (all-first _ _ h .0)
 
-pub late-fitting : (n : ℕ) (to claims paid : List ℕ) (money room : ℕ) → lateInOrder n to claims paid money room ≡ true
+pub late-fitting : (n : ℕ) (to claims paid : List ℕ) (money room : ℕ) → lateMoneyInOrder n to claims paid money room ≡ true
     → Fitting (TiersSound n to) (min (length claims) (min (length paid) room))
-unfolding lateInOrder
+unfolding lateMoneyInOrder
 late-fitting n to claims paid money room h = tiers-fitting n to _ (all-first _ _ h .0)
 
 pub bounded : {n : ℕ} {by to : List ℕ} → Sound n by to → Bounded (monthOf n by to)
@@ -85,13 +85,13 @@ owing-sum n to f = sym (front-sum tierPlaces to (tiers * n) (omega arith)) ∙ f
 
 -- the last tests
 pub tiers-tested : (n : ℕ) (to : List ℕ) (room : ℕ) → places ≤ room → 1 ≤ n → n ≤ places → tierPlaces ≤ length to
-    → leb (min (sum (at to) (tiers * n)) (sideLimit + 1)) sideLimit ≡ tiersInOrder n to room
-unfolding allOf tiersInOrder
+    → leb (min (sum (at to) (tiers * n)) (sideLimit + 1)) sideLimit ≡ owingInOrder n to room
+unfolding allOf owingInOrder
 tiers-tested n to room r s f l =
     simp (le-leb places room r, le-leb 1 n s, le-leb n places f, le-leb tierPlaces (length to) l)
     (cut-leb (sum (at to) (tiers * n)) sideLimit ∙ ap (λ s. leb s sideLimit) (owing-sum n to f) ∙ last-test _)
 
-pub tested : (n : ℕ) (by to : List ℕ) (room : ℕ) → tiersInOrder n to room ≡ true → places ≤ length by
+pub tested : (n : ℕ) (by to : List ℕ) (room : ℕ) → owingInOrder n to room ≡ true → places ≤ length by
     → eqb (min (sum (at by) n) (sideLimit + 1)) (min (sum (at to) (tiers * n)) (sideLimit + 1)) ≡ inOrder n by to room
 unfolding allOf inOrder
 tested n by to room t l =

@@ -32,14 +32,14 @@ eachAtMost f g zero = true
 eachAtMost f g (suc n) = cond (eachAtMost f g n) (leb (f n) (g n)) false
 
 -- n is 1 to 64 and the side within its bound (01, The month's sums); `room` is the length of the shortest of the other slices
-unfoldable pub tiersInOrder : ℕ → List ℕ → ℕ → Bool
-tiersInOrder n to room =
+unfoldable pub owingInOrder : ℕ → List ℕ → ℕ → Bool
+owingInOrder n to room =
     allOf (leb places room ∷ leb 1 n ∷ leb n places ∷ leb tierPlaces (length to) ∷ leb (sum (owingOf to) n) sideLimit ∷ [])
 
 -- the two sides' totals are equal (01, Notice), so that both are within the bound
 unfoldable pub inOrder : ℕ → List ℕ → List ℕ → ℕ → Bool
 inOrder n by to room =
-    allOf (tiersInOrder n to room ∷ leb places (length by) ∷ eqb (sum (rowOf by) n) (sum (owingOf to) n) ∷ [])
+    allOf (owingInOrder n to room ∷ leb places (length by) ∷ eqb (sum (rowOf by) n) (sum (owingOf to) n) ∷ [])
 
 -- nothing received is above what is payable (01, Refused: 13)
 unfoldable pub receivedInOrder : ℕ → (by to received : List ℕ) → ℕ → Bool
@@ -51,10 +51,10 @@ abbrev pub settlementInOrder : ℕ → (by to received a b c : List ℕ) → Boo
 settlementInOrder n by to received a b c = receivedInOrder n by to received (min (length a) (min (length b) (length c)))
 
 -- claims are within what is owing, payments within claims, and money within the unpaid claims (01, Late money; The list of demand 3)
-unfoldable pub lateInOrder : ℕ → (to claims paid : List ℕ) → ℕ → ℕ → Bool
-lateInOrder n to claims paid money room =
+unfoldable pub lateMoneyInOrder : ℕ → (to claims paid : List ℕ) → ℕ → ℕ → Bool
+lateMoneyInOrder n to claims paid money room =
     allOf
-    (tiersInOrder n to (min (length claims) (min (length paid) room))
+    (owingInOrder n to (min (length claims) (min (length paid) room))
     ∷ eachAtMost (rowOf claims) (owingOf to) n
     ∷ eachAtMost (rowOf paid) (rowOf claims) n
     ∷ leb money (sum (λ i. rowOf claims i - rowOf paid i) n)

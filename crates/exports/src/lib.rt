@@ -1,8 +1,9 @@
 // C exports: the exact proportion; over slices, notice, scaled amounts, settlement and late money of one month.
-// Arguments are in order where 01 can have such a month: n is 1 to 64, rows have 64 cells or more and tiers 320, the sides'
-// totals are equal and within their bound, nothing received is above what is payable, no claim above what is owing, nothing
-// paid above its claim, and no late money above the unpaid claims. Other arguments are refused, since a difference of
-// theirs could be below 0.
+// Arguments are in order where n is 1 to 64, rows have 64 cells or more and tiers 320, the sides' totals are equal and
+// within their bound, nothing received is above what is payable, no claim above what is owing, nothing paid above its
+// claim, and no late money above the unpaid claims. Others are refused: no month of 01 has them, and its amounts would not
+// be those of the rules. Claims and payments that pass need not be those of a settlement: that would take the sums owing
+// by and the receipts, which `clearing_late` is not handed.
 mod months;
 mod orders;
 mod slices;
@@ -14,7 +15,7 @@ use months::scaled_of;
 use months::settled_of;
 use orders::check_receipts;
 use orders::in_order;
-use orders::late_in_order;
+use orders::late_money_in_order;
 use orders::proportional;
 use slices::put_row;
 use slices::shorter;
@@ -28,7 +29,7 @@ ghost use Rattle.exact.specs.Rows.{places, cells};
 ghost use Rattle.settlement.specs.Month.{tierAt};
 ghost use Rattle.settlement.specs.Late.{latePayment};
 ghost use Rattle.exports.specs.Slices.{front, rowOf, tierPlaces, left};
-ghost use Rattle.exports.specs.Orders.{inOrder, settlementInOrder, lateInOrder};
+ghost use Rattle.exports.specs.Orders.{inOrder, settlementInOrder, lateMoneyInOrder};
 ghost use Rattle.exports.specs.Answers.{noticeOf, scaledOf, settledOf, refused, noQuotient};
 
 // More rounds than any settlement runs: the answer to arguments that are not in order.
@@ -140,8 +141,8 @@ pub extern "C" fn clearing_settle(
     settled.rounds
 }
 
-// Writes what late money pays each claim of which some was paid, and says whether the arguments were in order. If not,
-// nothing is written.
+// Writes what late money pays of each claim, beyond what was paid of it, and says whether the arguments were in order;
+// `money` is what is held, the receipt added. If they were not, nothing is written.
 #[no_mangle]
 pub extern "C" fn clearing_late(
     to: &[u64],
@@ -151,10 +152,10 @@ pub extern "C" fn clearing_late(
     n: usize,
     pays: &mut [u64],
 ) -> bool
-    ensures { λ r. ⌜ r ≡ lateInOrder n (now (to .entry)) (now (claims .entry)) (now (paid .entry)) money (length (now (pays .entry))) ⌝ }
+    ensures { λ r. ⌜ r ≡ lateMoneyInOrder n (now (to .entry)) (now (claims .entry)) (now (paid .entry)) money (length (now (pays .entry))) ⌝ }
     ensures { λ r. ⌜ now (pays .exit) ≡ left r (cells (latePayment (tierAt (front tierPlaces (now (to .entry)))) (rowOf (now (claims .entry))) (rowOf (now (paid .entry))) n money) n) (now (pays .entry)) ⌝ }
 {
-    if !late_in_order(to, claims, paid, money, n, pays.len()) {
+    if !late_money_in_order(to, claims, paid, money, n, pays.len()) {
         return false;
     }
     let pays_row = late_of(to, claims, paid, money, n);

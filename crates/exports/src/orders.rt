@@ -1,6 +1,5 @@
 // Whether arguments are in order.
 use crate::months::notice_of;
-use crate::slices::SIDE_LIMIT;
 use crate::slices::row_of;
 use crate::slices::shorter;
 use crate::slices::side_total;
@@ -9,6 +8,7 @@ use exact::PLACES;
 use exact::Row;
 use exact::excesses;
 use exact::total;
+use settlement::SIDE_LIMIT;
 use settlement::TIERS;
 use settlement::over_tiers;
 ghost use mathlib.Core.Path.{_≡_};
@@ -16,12 +16,12 @@ ghost use mathlib.Core.Bool.{true, false};
 ghost use Prim.Native.Nat.{_≤_};
 ghost use Rattle.exact.specs.Division.{Proportional};
 ghost use Rattle.exact.specs.Rows.{places, at};
-ghost use Rattle.exports.specs.Orders.{eachAtMost, tiersInOrder, inOrder, receivedInOrder, lateInOrder};
+ghost use Rattle.exports.specs.Orders.{eachAtMost, owingInOrder, inOrder, receivedInOrder, lateMoneyInOrder};
 ghost use Rattle.exports.specs.Answers.{noticeOf};
 
 // Whether n participants and the cents owing to them by tiers are in order, and the shortest slice of a row has room.
-pub fn tiers_in_order(to: &[u64], n: usize, room: usize) -> bool
-    ensures { λ r. ⌜ r ≡ tiersInOrder n (now (to .entry)) room ⌝ }
+pub fn owing_in_order(to: &[u64], n: usize, room: usize) -> bool
+    ensures { λ r. ⌜ r ≡ owingInOrder n (now (to .entry)) room ⌝ }
 {
     if room < PLACES {
         return false;
@@ -42,7 +42,7 @@ pub fn tiers_in_order(to: &[u64], n: usize, room: usize) -> bool
 pub fn in_order(by: &[u64], to: &[u64], n: usize, room: usize) -> bool
     ensures { λ r. ⌜ r ≡ inOrder n (now (by .entry)) (now (to .entry)) room ⌝ }
 {
-    if !tiers_in_order(to, n, room) {
+    if !owing_in_order(to, n, room) {
         return false;
     }
     if by.len() < PLACES {
@@ -91,7 +91,7 @@ pub fn check_receipts(by: &[u64], to: &[u64], received: &[u64], n: usize, room: 
 }
 
 // Whether the claims, what was paid of them and the money that comes late are in order.
-pub fn late_in_order(
+pub fn late_money_in_order(
     to: &[u64],
     claims: &[u64],
     paid: &[u64],
@@ -99,9 +99,9 @@ pub fn late_in_order(
     n: usize,
     room: usize,
 ) -> bool
-    ensures { λ r. ⌜ r ≡ lateInOrder n (now (to .entry)) (now (claims .entry)) (now (paid .entry)) money room ⌝ }
+    ensures { λ r. ⌜ r ≡ lateMoneyInOrder n (now (to .entry)) (now (claims .entry)) (now (paid .entry)) money room ⌝ }
 {
-    if !tiers_in_order(to, n, shorter(claims.len(), shorter(paid.len(), room))) {
+    if !owing_in_order(to, n, shorter(claims.len(), shorter(paid.len(), room))) {
         return false;
     }
     let to_cells = tier_cells_of(to);

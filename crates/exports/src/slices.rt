@@ -2,6 +2,7 @@
 use exact::PLACES;
 use exact::Row;
 use exact::put_cells;
+use settlement::SIDE_LIMIT;
 use settlement::TIERS;
 use settlement::TierCells;
 ghost use mathlib.Core.Path.{_≡_};
@@ -10,9 +11,6 @@ ghost use lib.ListN.{length};
 ghost use Rattle.exact.specs.Rows.{places, at, sum};
 ghost use Rattle.settlement.specs.Month.{sideLimit};
 ghost use Rattle.exports.specs.Slices.{tierPlaces, front, written};
-
-// Each side's total over a period is at most this many cents (01, The month's sums).
-pub const SIDE_LIMIT: u64 = 10_000_000_000_000;
 
 // The smaller of two lengths.
 pub fn shorter(a: usize, b: usize) -> usize

@@ -6,7 +6,7 @@ use native.Mathlib.Nat.{eq-zero-or-pos}
 use native.Mathlib.Omega.{arith}
 use Rattle.exact.specs.Rows.{sum}
 use Rattle.exact.proofs.RowLaws.{sum-term}
-use Rattle.settlement.specs.Rounds.{Standing, start, round, run, spread, Suffice, RoundsSuffice}
+use Rattle.settlement.specs.Rounds.{Standing, start, round, run, spread, RoundsSuffice}
 use Rattle.settlement.specs.Settling.{SettlementEnds}
 use Rattle.settlement.proofs.RoundLaws.{Ended, run-done, run-spent, run-more, spread-ended, spread-rounds}
 use Rattle.settlement.proofs.SettleLaws.{scaled-le-revised}

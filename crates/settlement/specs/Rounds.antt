@@ -53,7 +53,7 @@ module _ (n : ℕ) (v : ℕ → ℕ) where
     -- the same is reached where any more are allowed
     pub more : (k : ℕ) → n ≤ k → run k (start balance deficit) ≡ spread balance deficit
 
--- what the arithmetic of the rounds leans on: no balance is above its revised amount, so that a positive one has a weight
+-- what the arithmetic of the rounds needs: no balance is above its revised amount, so that a positive one has a weight
 pub record Backing (n : ℕ) (v balance : ℕ → ℕ) (deficit : ℕ) : Type 0 where
   pub few : n ≤ places
   pub backed : (i : ℕ) → i < n → balance i ≤ v i

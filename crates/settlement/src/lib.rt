@@ -12,6 +12,7 @@ mod walk;
 pub use late::late_payments;
 pub use noticing::Noticed;
 pub use noticing::notice;
+pub use owing::SIDE_LIMIT;
 pub use owing::TIERS;
 pub use owing::TierCells;
 pub use owing::over_tiers;

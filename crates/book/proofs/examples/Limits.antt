@@ -1,7 +1,7 @@
 -- 01's limits come out of the definitions by computation.
 use mathlib.Core.Path.{refl}
 use Rattle.book.specs.examples.Months.{stateAfter}
-use Rattle.book.specs.examples.Limits.{JustBytes, FieldLimits, ByteLimits, BookLimits, Limits}
+use Rattle.book.specs.examples.Limits.{FieldLimits, ByteLimits, BookLimits, Limits}
 use Rattle.book.specs.layouts.Fields.{valueAt, bytes, fieldsAt, fieldBytes}
 use Rattle.book.specs.layouts.Entries.{entryOf, bytesOf}
 use Rattle.book.specs.layouts.Reading.{entryAt, reading}
@@ -56,6 +56,10 @@ byte-limits = record {
   at-end = refl;
   first-kind = (refl, refl);
   last-kind = (refl, refl);
+  read-outside = refl;
+  read-outside-short = refl;
+  write-outside = (refl, refl);
+  write-outside-short = refl;
 }
 
 book-limits : BookLimits
@@ -67,22 +71,30 @@ book-limits = record {
   words-64 = (refl, refl);
   first-period = refl;
   next-period = refl;
+  last-period = refl;
   twelve-periods = (refl, refl);
-  participant-energy = refl;
-  participant-amount = refl;
-  participant-receipt = refl;
+  freed-place = refl;
+  not-opened = refl;
+  has-left = refl;
+  before-notice = refl;
+  after-notice = refl;
+  once-settled = refl;
+  equal-sides = refl;
+  less-owing-to = refl;
+  more-owing-to = refl;
   total-owing-by = refl;
   energy-owing-by = (refl, refl);
   total-owing-to = refl;
   energy-owing-to = (refl, refl);
   both-full = refl;
-  equal-sides = refl;
-  less-owing-to = refl;
-  more-owing-to = refl;
+  participant-energy = refl;
+  participant-amount = refl;
+  participant-receipt = refl;
   payable = refl;
   payable-left = refl;
   arrears = refl;
   arrears-left = refl;
+  nothing-payable = refl;
   earlier-arrears = (refl, refl);
 }
 

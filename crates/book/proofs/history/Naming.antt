@@ -11,7 +11,7 @@ use Rattle.exact.proofs.RowLaws.{sum-cong, sum-term}
 use Rattle.book.specs.rules.Kinds.{periodOf, isReceipt, receiptCents}
 use Rattle.book.specs.rules.Periods.{holds, leaves, Change, changed}
 use Rattle.book.specs.rules.State.{State, find, periodAt, replaced, removed}
-use Rattle.book.specs.rules.Refusals.{Input, Entered}
+use Rattle.book.specs.rules.Refusals.{Input}
 use Rattle.book.specs.rules.Step.{stored, payoutWords, opened}
 use Rattle.book.specs.rules.Valid.{Sound, AtStage, SoundState, AfterSettlement}
 use Rattle.book.specs.history.Log.{Accepted, Log, Account, entered, account, claim, arrears}
@@ -28,6 +28,7 @@ use Rattle.book.proofs.history.EntryTracks.{entry-tracks, entry-in-orde
 use Rattle.book.proofs.rules.StepLaws.{Names}
 use Rattle.book.proofs.rules.ValidLaws.{named-in-book, named-changes}
 use Rattle.book.proofs.history.Invariant.{Closed, Kept, Inv, stays, goes}
+use Rattle.book.specs.inner.Ways.{Entered}
 
 -- the account of a period that leaves is closed
 closes : (n : ℕ) (p : Period) (a : Account) → Sound n p → Tracks n p a → a .openings ≡ 1 → leaves n p ≡ true

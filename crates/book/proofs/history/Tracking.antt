@@ -15,7 +15,6 @@ use Rattle.book.specs.rules.Periods.{monthOf, zeros, raised, amounted, w
 use Rattle.book.specs.rules.Kinds.{isSettle}
 use Rattle.book.specs.rules.Step.{payoutWords}
 use Rattle.book.specs.rules.Valid.{Sound}
-use Rattle.book.specs.inner.OnePeriod.{Placed}
 use Rattle.book.specs.history.Log.{Account, entered, addsBy, addsTo, receivedFrom, monthIn}
 use Rattle.book.specs.declared.Stage.{Stage}
 use Rattle.book.specs.declared.Stage.the-variants.{Opened, Noticed, Settled}
@@ -23,7 +22,7 @@ use Rattle.book.specs.declared.entries.Entry.{Entry}
 use Rattle.book.specs.declared.entries.Entry.the-variants.{Notice, Receipt}
 use Rattle.book.specs.declared.Period.{Period}
 use Rattle.book.proofs.rules.CellLaws.{zeros-at, raised-at, raised-tier}
-use Rattle.book.proofs.rules.Passing.{PassesAmount}
+use Rattle.book.proofs.rules.Passing.{PassesAmount, Placed}
 use Rattle.book.proofs.history.LogLaws.{month-still, late-unsettled, received-grows}
 
 -- before its settle entry no receipt is late

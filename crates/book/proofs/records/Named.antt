@@ -14,7 +14,7 @@ use Rattle.book.specs.layouts.Allowed.{allowed, centsLimit}
 use Rattle.book.specs.rules.Kinds.{field, periodOf, isOpen, isReceipt, receiptCents}
 use Rattle.book.specs.rules.Periods.{leaves, holds, changed}
 use Rattle.book.specs.rules.State.{view, heldIn, find, noPeriod, periodAt, replaced, removed}
-use Rattle.book.specs.rules.Refusals.{Input, Entered, periodChecks, barring, checks}
+use Rattle.book.specs.rules.Refusals.{Input, periodChecks, barring, checks}
 use Rattle.book.specs.rules.Step.{moved, accepted}
 use Rattle.book.specs.rules.Valid.{Valid, Sound}
 use Rattle.book.specs.declared.entries.Entry.{Entry}
@@ -28,6 +28,7 @@ use Rattle.book.proofs.rules.ValidLaws.{named-changes}
 use Rattle.book.proofs.records.Packing.{count-is, read-at, read-in-book, kept-held}
 use Rattle.book.proofs.records.Bounds.{held-bound, holds-within}
 use Rattle.book.proofs.records.Replies.{to-period, held-replaced, held-removed}
+use Rattle.book.specs.inner.Ways.{Entered}
 
 -- a receipt's cents are within their limit
 pub cents-within : (e : Entry) → allowed e ≡ true → receiptCents e ≤ centsLimit

@@ -11,7 +11,7 @@ use Rattle.book.specs.Checks.{refusal}
 use Rattle.book.specs.rules.Kinds.{periodOf, isOpen, receiptCents}
 use Rattle.book.specs.rules.Periods.{leaves, holds, changed}
 use Rattle.book.specs.rules.State.{view, pack, heldIn, find, periodAt, replaced, removed}
-use Rattle.book.specs.rules.Refusals.{Input, Entered, periodChecks, barring, openChecks, namedChecks, kindChecks, checks}
+use Rattle.book.specs.rules.Refusals.{Input, periodChecks, barring, openChecks, namedChecks, kindChecks, checks}
 use Rattle.book.specs.rules.Step.{Outcome, accepted, Reply, reply}
 use Rattle.book.specs.rules.Valid.{Valid}
 use Rattle.book.specs.rules.Answers.{numberOf, replied}
@@ -26,6 +26,7 @@ use Rattle.book.proofs.rules.ListLaws.{find-split}
 use Rattle.book.proofs.rules.StepLaws.{Names, step-accepted, step-refused}
 use Rattle.book.proofs.rules.ValidLaws.{named-in-book, named-changes}
 use Rattle.book.proofs.history.Invariant.{held-join}
+use Rattle.book.specs.inner.Ways.{Entered}
 
 module _ {b : Book} (v : Valid b) (e : Entry) (w : List ℕ) where
   abbrev x : Input

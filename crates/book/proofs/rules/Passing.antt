@@ -13,7 +13,6 @@ use Rattle.book.specs.Checks.{refusal}
 use Rattle.book.specs.layouts.Allowed.{centsLimit, tierOutside, outside, allowed}
 use Rattle.book.specs.rules.Periods.{isOpened, isNoticed, isSettled, sideTotal}
 use Rattle.book.specs.rules.Refusals.{receivable, amountChecks, noticeChecks, receiptChecks, settleChecks}
-use Rattle.book.specs.inner.OnePeriod.{Placed}
 use Rattle.book.specs.declared.Stage.{Stage}
 use Rattle.book.specs.declared.Stage.the-variants.{Opened, Noticed, Settled}
 use Rattle.book.specs.declared.entries.Entry.the-variants.{Energy, Amount, Receipt}
@@ -40,6 +39,10 @@ pub settled-stage : (s : Stage) → isSettled s ≡ true → s ≡ Settled
 settled-stage Opened e = absurd (false≢true e)
 settled-stage Noticed e = absurd (false≢true e)
 settled-stage Settled e = refl
+
+-- an amount has a place on its side: tier 1 to 5 where it is owing to a participant
+abbrev pub Placed : ℕ → ℕ → Type 0
+Placed side tier = (side ≡ 0) ⊎ ((side ≡ 1) × (0 < tier) × (tier ≤ tiers))
 
 placed : (side tier : ℕ) → side ≤ 1 → (side ≡ 1 → (0 < tier) × (tier ≤ tiers)) → Placed side tier
 placed zero tier l f = inl refl

@@ -13,10 +13,11 @@ use Rattle.book.specs.layouts.Allowed.{allowed}
 use Rattle.book.specs.rules.Kinds.{periodOf, isOpen}
 use Rattle.book.specs.rules.Periods.{leaves, changed}
 use Rattle.book.specs.rules.State.{State, mostPeriods, find, periodAt, replaced, removed}
-use Rattle.book.specs.rules.Refusals.{Input, Entered, periodChecks, barring, openChecks, namedChecks, kindChecks, checks}
+use Rattle.book.specs.rules.Refusals.{Input, periodChecks, barring, openChecks, namedChecks, kindChecks, checks}
 use Rattle.book.specs.rules.Step.{stored, opened, moved, accepted, refused, step}
 use Rattle.book.specs.declared.Period.{Period}
 use Rattle.book.proofs.rules.CheckLaws.{passes, all-pass}
+use Rattle.book.specs.inner.Ways.{Entered}
 
 module _ (s : State) (x : Input) where
   -- the checks of an open entry are passed, or of one that names a period in the book

@@ -18,7 +18,7 @@ use Rattle.book.specs.Checks.{refusal}
 use Rattle.book.specs.rules.Kinds.{periodOf, isOpen, isAmount, isNotice, isReceipt, isSettle, receiptCents}
 use Rattle.book.specs.rules.Periods.{isSettled, zeros, holds, sideTotal, fresh, leaves, Change, changed, withLateReceipt}
 use Rattle.book.specs.rules.State.{State, view, pack, mostPeriods, Making, makingChecks, made, find, periodAt, replaced, removed, added}
-use Rattle.book.specs.rules.Refusals.{Input, Entered, checks}
+use Rattle.book.specs.rules.Refusals.{Input, checks}
 use Rattle.book.specs.rules.Step.{Outcome, stored, accepted, step, reply}
 use Rattle.book.specs.rules.Valid.{All, InBook, SoundState, Valid, StaysValid, RefusalChangesNothing, RoundsOfSettlements}
 use Rattle.book.specs.declared.entries.Entry.{Entry}
@@ -29,6 +29,7 @@ use Rattle.book.proofs.rules.ChangeLaws.{Changes, no-pays}
 use Rattle.book.proofs.rules.EntryChanges.{entry-changes}
 use Rattle.book.proofs.rules.ListLaws.{all-join, all-left, all-right, find-split}
 use Rattle.book.proofs.rules.StepLaws.{Opens, Names, enters, by-kind, step-accepted, step-refused, accepted-opens, accepted-names, step-answer}
+use Rattle.book.specs.inner.Ways.{Entered}
 
 -- a period just opened
 pub fresh-in-book : (n k : ℕ) → n ≤ places → InBook n (fresh k)

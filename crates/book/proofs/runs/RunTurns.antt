@@ -20,7 +20,7 @@ use Rattle.book.specs.rules.Refusals.{Input, barring, periodChecks, chec
 use Rattle.book.specs.rules.Step.{payoutWords, opened, reply}
 use Rattle.book.specs.rules.Valid.{Valid}
 use Rattle.book.specs.inner.OnePeriod.{Effect, effect}
-use Rattle.book.specs.runs.Running.{paidBy, run}
+use Rattle.book.specs.runs.Running.{paidBy}
 use Rattle.book.specs.inner.Ways.{NamedAt, Takes, ReadAt, Decides}
 use Rattle.book.specs.inner.Postings.{Postings, posts, postings, cleared}
 use Rattle.book.specs.declared.answers.Answer.{Answer}

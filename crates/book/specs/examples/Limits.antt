@@ -1,4 +1,4 @@
--- 01's limits in 01's order, each by an example at the limit and one outside it.
+-- 01's limits, its examples of them (01, Reckoned examples) among them, each at the limit and one outside it.
 -- The numbers are 01's own and not those of the definitions, so that a limit which code and definitions share wrongly is found.
 use Prim.Native.Nat.{ℕ, _-_}
 use mathlib.Core.Path.{_≡_}
@@ -9,7 +9,7 @@ use Rattle.book.specs.layouts.Reading.{reading}
 use Rattle.book.specs.layouts.Writing.{writing, written}
 use Rattle.book.specs.rules.State.{State, made}
 use Rattle.book.specs.rules.Step.{step}
-use Rattle.book.specs.examples.Months.{stateAfter, book, lent, noticeA, hundred, openings}
+use Rattle.book.specs.examples.Months.{stateAfter, book, lent, noticeA, settledA, hundred, openings}
 use Rattle.book.specs.declared.entries.Entry.{Entry}
 use Rattle.book.specs.declared.entries.Entry.the-variants.{Open, Energy, Amount, Notice, Receipt, Settle}
 
@@ -40,10 +40,6 @@ sides by to = Open 1 ∷ Amount 1 0 0 0 by ∷ Amount 1 1 1 1 1 ∷ Amount 1 1 1
 abbrev pub settledWith : ℕ → List Entry
 settledWith cents =
     Open 1 ∷ Amount 1 0 0 0 100 ∷ Amount 1 1 0 0 100 ∷ Amount 1 2 1 5 200 ∷ Notice 1 ∷ Receipt 1 0 cents ∷ Settle 1 ∷ hundred 2
-
--- month A settled, where 0 has paid 300 of 600
-abbrev pub settledA : List Entry
-settledA = noticeA ++ (Receipt 7 0 300 ∷ Receipt 7 2 334 ∷ Settle 7 ∷ [])
 
 -- the bytes of the largest period, quantity, price and cents
 abbrev pub periodBytes : List ℕ
@@ -79,7 +75,7 @@ pub record FieldLimits : Type 0 where
   pub last-tier-owing-to : of64 opened (Amount 1 0 1 5 1 ∷ Amount 1 0 1 6 1 ∷ []) ≡ 0 ∷ 3 ∷ []
   pub quantity : of64 opened (Energy 1 0 0 100_000_000 1 ∷ Energy 1 0 0 100_000_001 1 ∷ []) ≡ 0 ∷ 3 ∷ []
   pub price : of64 opened (Energy 1 0 0 1 10_000_000 ∷ Energy 1 0 0 1 10_000_001 ∷ []) ≡ 0 ∷ 3 ∷ []
-  pub quantity-and-price : of64 opened (Energy 1 0 1 100_000_000 10_000_000 ∷ []) ≡ 0 ∷ []
+  pub quantity-and-price : of64 opened (Energy 1 0 1 100_000_000 10_000_000 ∷ Energy 1 0 1 0 0 ∷ []) ≡ 0 ∷ 0 ∷ []
   pub most-energy-cents : energyCents 100_000_000 10_000_000 ≡ 1_150_000_000_000
   pub least-cents-amount : of64 opened (Amount 1 0 0 0 1 ∷ Amount 1 0 0 0 0 ∷ []) ≡ 0 ∷ 3 ∷ []
   pub most-cents-amount : of64 opened (Amount 1 0 1 5 10_000_000_000_000 ∷ Amount 1 0 1 5 10_000_000_000_001 ∷ []) ≡ 0 ∷ 3 ∷ []
@@ -101,8 +97,13 @@ pub record ByteLimits : Type 0 where
   -- kinds 1 and 6 are known by their first byte alone, and kinds 0 and 7 are not
   pub first-kind : (reading (1 ∷ []) 0 .answer ≡ 1) × (reading (0 ∷ []) 0 ≡ record { answer = 2; place = 0; entry = [] })
   pub last-kind : (reading (6 ∷ []) 0 .answer ≡ 1) × (reading (7 ∷ []) 0 ≡ record { answer = 2; place = 0; entry = [] })
+  -- a field outside its values is 3, after a missing body in reading and before missing room in writing
+  pub read-outside : reading (4 ∷ periodBytes ++ 5 ∷ periodBytes ++ 64 ∷ centsBytes) 5 ≡ record { answer = 3; place = 5; entry = [] }
+  pub read-outside-short : reading (5 ∷ periodBytes ++ 64 ∷ take 7 centsBytes) 0 ≡ record { answer = 1; place = 0; entry = [] }
+  pub write-outside : (writing (Receipt 1 64 1) 14 ≡ record { answer = 3; count = 0 }) × (written (Receipt 1 64 1) (replicate 14 9) ≡ replicate 14 9)
+  pub write-outside-short : writing (Receipt 1 64 1) 13 ≡ record { answer = 3; count = 0 }
 
--- sizes and sums of the book (01, The month's sums, and Refused, numbers 4 to 7 and 10 to 14)
+-- sizes, sums and stages of the book (01, The month's sums to Late money, and Refused), by the refusal's number
 pub record BookLimits : Type 0 where
   -- 4: n is 1 to 64
   pub least-n : (made (record { n = 1 }) .answer ≡ 0) × (made (record { n = 0 }) .answer ≡ 4)
@@ -110,30 +111,40 @@ pub record BookLimits : Type 0 where
   -- 5: at least n payout words
   pub words-1 : (answersOf (book 1) (9 ∷ []) opened ≡ 0 ∷ []) × (answersOf (book 1) [] opened ≡ 5 ∷ [])
   pub words-64 : (answersOf (book 64) (replicate 64 9) opened ≡ 0 ∷ []) × (answersOf (book 64) (replicate 63 9) opened ≡ 5 ∷ [])
-  -- 6: above the highest, which is 0 at first; the largest number opens
+  -- 6: above the highest, which is 0 at first; the largest number opens, and none after it
   pub first-period : of3 [] (Open 1 ∷ Open 0 ∷ Open 4_294_967_295 ∷ []) ≡ 0 ∷ 6 ∷ 0 ∷ []
   pub next-period : of3 (Open 8 ∷ []) (Open 9 ∷ Open 8 ∷ []) ≡ 0 ∷ 6 ∷ []
-  -- 7: twelve periods
+  pub last-period : of3 (Open 4_294_967_295 ∷ []) (Open 4_294_967_295 ∷ []) ≡ 6 ∷ []
+  -- 7: twelve periods; the place of one that left serves a later one
   pub twelve-periods : (of3 (openings 11) (Open 12 ∷ []) ≡ 0 ∷ []) × (of3 (openings 12) (Open 13 ∷ []) ≡ 7 ∷ [])
-  -- 12: participants are 0 to n − 1
-  pub participant-energy : of3 opened (Energy 1 2 0 1 1 ∷ Energy 1 3 0 1 1 ∷ []) ≡ 0 ∷ 12 ∷ []
-  pub participant-amount : of3 opened (Amount 1 2 0 0 1 ∷ Amount 1 3 0 0 1 ∷ []) ≡ 0 ∷ 12 ∷ []
-  pub participant-receipt : of3 noticeA (Receipt 7 2 1 ∷ Receipt 7 3 1 ∷ []) ≡ 0 ∷ 12 ∷ []
+  pub freed-place : of3 (openings 12 ++ (Notice 1 ∷ Settle 1 ∷ [])) (Open 13 ∷ []) ≡ 0 ∷ []
+  -- 8: a period that was not opened, or has left
+  pub not-opened : of3 opened (Energy 2 0 0 1 1 ∷ Amount 2 0 0 0 1 ∷ Notice 2 ∷ Receipt 2 0 1 ∷ Settle 2 ∷ Notice 0 ∷ []) ≡ 8 ∷ 8 ∷ 8 ∷ 8 ∷ 8 ∷ 8 ∷ []
+  pub has-left : of3 (Open 1 ∷ Notice 1 ∷ Settle 1 ∷ []) (Open 1 ∷ Notice 1 ∷ Open 2 ∷ []) ≡ 6 ∷ 8 ∷ 0 ∷ []
+  -- 9: each kind at each stage
+  pub before-notice : of3 opened (Energy 1 0 0 1 1 ∷ Amount 1 0 0 0 1 ∷ Notice 1 ∷ Receipt 1 0 1 ∷ Settle 1 ∷ []) ≡ 0 ∷ 0 ∷ 0 ∷ 9 ∷ 9 ∷ []
+  pub after-notice : of3 noticeA (Energy 7 0 0 1 1 ∷ Amount 7 0 0 0 1 ∷ Notice 7 ∷ Receipt 7 0 1 ∷ Settle 7 ∷ []) ≡ 9 ∷ 9 ∷ 9 ∷ 0 ∷ 0 ∷ []
+  pub once-settled : of3 settledA (Energy 7 0 0 1 1 ∷ Amount 7 0 0 0 1 ∷ Notice 7 ∷ Receipt 7 0 1 ∷ Settle 7 ∷ []) ≡ 9 ∷ 9 ∷ 9 ∷ 0 ∷ 9 ∷ []
+  -- 10: a cent between the sides
+  pub equal-sides : of3 (sides 100 99) (Notice 1 ∷ []) ≡ 0 ∷ []
+  pub less-owing-to : of3 (sides 100 98) (Notice 1 ∷ []) ≡ 10 ∷ []
+  pub more-owing-to : of3 (sides 100 100) (Notice 1 ∷ []) ≡ 10 ∷ []
   -- 11: each side's total by itself, over all participants and tiers; quantity 100 at price 100 comes to 12 cents
   pub total-owing-by : of3 (sides 9_999_999_999_999 1) (Amount 1 2 0 0 1 ∷ Amount 1 2 0 0 2 ∷ []) ≡ 0 ∷ 11 ∷ []
   pub energy-owing-by : (of3 (sides 9_999_999_999_988 1) (Energy 1 2 0 100 100 ∷ []) ≡ 0 ∷ []) × (of3 (sides 9_999_999_999_989 1) (Energy 1 2 0 100 100 ∷ []) ≡ 11 ∷ [])
   pub total-owing-to : of3 (sides 1 9_999_999_999_998) (Amount 1 2 1 3 1 ∷ Amount 1 2 1 3 2 ∷ []) ≡ 0 ∷ 11 ∷ []
   pub energy-owing-to : (of3 (sides 1 9_999_999_999_987) (Energy 1 2 1 100 100 ∷ []) ≡ 0 ∷ []) × (of3 (sides 1 9_999_999_999_988) (Energy 1 2 1 100 100 ∷ []) ≡ 11 ∷ [])
   pub both-full : of3 (sides 10_000_000_000_000 9_999_999_999_999) (Amount 1 2 0 0 1 ∷ Amount 1 2 1 3 1 ∷ Notice 1 ∷ []) ≡ 11 ∷ 11 ∷ 0 ∷ []
-  -- 10: a cent between the sides
-  pub equal-sides : of3 (sides 100 99) (Notice 1 ∷ []) ≡ 0 ∷ []
-  pub less-owing-to : of3 (sides 100 98) (Notice 1 ∷ []) ≡ 10 ∷ []
-  pub more-owing-to : of3 (sides 100 100) (Notice 1 ∷ []) ≡ 10 ∷ []
+  -- 12: participants are 0 to n − 1
+  pub participant-energy : of3 opened (Energy 1 2 0 1 1 ∷ Energy 1 3 0 1 1 ∷ []) ≡ 0 ∷ 12 ∷ []
+  pub participant-amount : of3 opened (Amount 1 2 0 0 1 ∷ Amount 1 3 0 0 1 ∷ []) ≡ 0 ∷ 12 ∷ []
+  pub participant-receipt : of3 noticeA (Receipt 7 2 1 ∷ Receipt 7 3 1 ∷ []) ≡ 0 ∷ 12 ∷ []
   -- 13: what is payable and not yet received, and arrears once settled
   pub payable : of3 noticeA (Receipt 7 0 600 ∷ Receipt 7 0 601 ∷ []) ≡ 0 ∷ 13 ∷ []
   pub payable-left : of3 (noticeA ++ (Receipt 7 0 300 ∷ [])) (Receipt 7 0 300 ∷ Receipt 7 0 301 ∷ []) ≡ 0 ∷ 13 ∷ []
   pub arrears : of3 settledA (Receipt 7 0 300 ∷ Receipt 7 0 301 ∷ []) ≡ 0 ∷ 13 ∷ []
   pub arrears-left : of3 (settledA ++ (Receipt 7 0 100 ∷ [])) (Receipt 7 0 200 ∷ Receipt 7 0 201 ∷ []) ≡ 0 ∷ 13 ∷ []
+  pub nothing-payable : of3 noticeA (Receipt 7 1 1 ∷ []) ≡ 13 ∷ []
   -- 14: a cent of earlier arrears
   pub earlier-arrears : (of3 (settledWith 100) (Receipt 2 0 1 ∷ []) ≡ 0 ∷ []) × (of3 (settledWith 99) (Receipt 2 0 1 ∷ []) ≡ 14 ∷ [])
 

@@ -1,4 +1,5 @@
--- 01's listing of month A, month B and the other examples without a star (01, Reckoned examples), from `step`.
+-- 01's listing of month A, month B and the other examples without a star (01, Reckoned examples), from `step`; those at a
+-- limit stand in `Limits`.
 use Prim.Native.Nat.{ℕ, _+_}
 use mathlib.Core.Path.{_≡_}
 use mathlib.Core.Bool.{cond}
@@ -52,8 +53,11 @@ abbrev pub noticeA : List Entry
 noticeA =
     Open 7 ∷ Amount 7 0 0 0 600 ∷ Amount 7 2 0 0 400 ∷ Amount 7 1 1 1 100 ∷ Amount 7 1 1 5 700 ∷ Amount 7 2 1 5 200 ∷ Notice 7 ∷ []
 
+abbrev pub settledA : List Entry
+settledA = noticeA ++ (Receipt 7 0 300 ∷ Receipt 7 2 334 ∷ Settle 7 ∷ [])
+
 abbrev pub monthA : List Entry
-monthA = noticeA ++ (Receipt 7 0 300 ∷ Receipt 7 2 334 ∷ Settle 7 ∷ Receipt 7 0 100 ∷ Receipt 7 0 200 ∷ [])
+monthA = settledA ++ (Receipt 7 0 100 ∷ Receipt 7 0 200 ∷ [])
 
 -- a line of an accepted entry that pays nothing, and of one that pays
 abbrev pub quiet : ℕ → Line
@@ -106,16 +110,7 @@ pub record Examples : Type 0 where
   pub month-b : linesFrom (book 3) lent monthB ≡ listingB
   pub empty-month : answersAfter 3 [] (Open 1 ∷ Notice 1 ∷ Settle 1 ∷ []) ≡ 0 ∷ 0 ∷ 0 ∷ []
   pub empty-gone : stateAfter (book 3) lent (Open 1 ∷ Notice 1 ∷ Settle 1 ∷ []) .periods ≡ []
-  pub period-0 : answersAfter 3 [] (Open 0 ∷ []) ≡ 6 ∷ []
-  pub twelfth : answersAfter 3 (openings 11) (Open 12 ∷ []) ≡ 0 ∷ []
-  pub thirteenth : answersAfter 3 (openings 12) (Open 13 ∷ []) ≡ 7 ∷ []
-  pub made-64 : made (record { n = 64 }) .answer ≡ 0
-  pub made-65 : made (record { n = 65 }) .answer ≡ 4
   pub answers-65 : answersAfter 65 [] (Open 1 ∷ Receipt 1 64 0 ∷ []) ≡ 4 ∷ 4 ∷ []
-  pub all-payable : answersAfter 3 noticeA (Receipt 7 0 600 ∷ []) ≡ 0 ∷ []
-  pub above-payable : answersAfter 3 noticeA (Receipt 7 0 601 ∷ []) ≡ 13 ∷ []
-  pub tier-5 : answersAfter 3 (Open 1 ∷ []) (Amount 1 0 1 5 1 ∷ []) ≡ 0 ∷ []
-  pub tier-6 : answersAfter 3 (Open 1 ∷ []) (Amount 1 0 1 6 1 ∷ []) ≡ 3 ∷ []
   pub full-side : answersAfter 3 (Open 1 ∷ []) (Amount 1 0 0 0 10_000_000_000_000 ∷ Amount 1 1 0 0 1 ∷ Energy 1 1 0 0 1 ∷ []) ≡ 0 ∷ 11 ∷ 0 ∷ []
   pub earlier-arrears : answersAfter 2 inArrears paysLater ≡ 14 ∷ 0 ∷ 0 ∷ 0 ∷ []
   -- the earlier check in 01's order answers
@@ -125,7 +120,4 @@ pub record Examples : Type 0 where
   pub eight-before-twelve : answersAfter 3 [] (Amount 1 3 0 0 1 ∷ []) ≡ 8 ∷ []
   pub twelve-before-nine : answersAfter 3 noticeA (Amount 7 3 0 0 1 ∷ []) ≡ 12 ∷ []
   pub nine-before-eleven : answersAfter 3 noticeA (Amount 7 0 0 0 10_000_000_000_000 ∷ []) ≡ 9 ∷ []
-  pub wrong-stages : answersAfter 3 (Open 1 ∷ []) (Receipt 1 0 1 ∷ Settle 1 ∷ []) ≡ 9 ∷ 9 ∷ []
-  pub second-notice : answersAfter 3 noticeA (Notice 7 ∷ []) ≡ 9 ∷ []
-  pub unequal-sides : answersAfter 3 (Open 1 ∷ Amount 1 0 0 0 1 ∷ []) (Notice 1 ∷ []) ≡ 10 ∷ []
   pub fourteen-before-thirteen : answersAfter 2 inArrears (Receipt 3 0 101 ∷ []) ≡ 14 ∷ []

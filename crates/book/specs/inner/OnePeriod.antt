@@ -2,7 +2,6 @@
 use Prim.Native.Nat.{ℕ, _+_, _-_, _*_, _≤_, _<_, _^_}
 use mathlib.Core.Path.{_≡_}
 use mathlib.Core.Bool.{Bool, true, false, cond}
-use mathlib.Core.Logic.{_⊎_}
 use mathlib.Core.List.{List}
 use lib.Dec.{eqb}
 use lib.ListN.{length}
@@ -20,10 +19,6 @@ use Rattle.book.specs.declared.changes.Change.{Change}
 use Rattle.book.specs.declared.effects.Effect as effects
 use Rattle.book.specs.declared.entries.Entry.{Entry}
 use Rattle.book.specs.declared.Period.{Period}
-
--- an amount has a place on its side: tier 1 to 5 where it is owing to a participant
-abbrev pub Placed : ℕ → ℕ → Type 0
-Placed side tier = (side ≡ 0) ⊎ ((side ≡ 1) × (0 < tier) × (tier ≤ tiers))
 
 -- an amount has a side and on side 1 a tier, and the cells that it is added to have room for it
 pub record Room (p : Period) (i side tier cents : ℕ) : Type 0 where

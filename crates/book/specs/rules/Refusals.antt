@@ -1,7 +1,6 @@
 -- The book's refusals, 3 to 14, in 01's order (01, Refused, by whoever causes it).
-use Prim.Native.Nat.{ℕ, _+_, _-_, _≤_, _<_}
-use mathlib.Core.Path.{_≡_}
-use mathlib.Core.Bool.{true, Bool, false, cond, not}
+use Prim.Native.Nat.{ℕ, _+_, _-_}
+use mathlib.Core.Bool.{Bool, false, cond, not}
 use mathlib.Core.List.{List, [], _∷_}
 use lib.Dec.{eqb, ltb, leb}
 use lib.ListN.{length}
@@ -86,9 +85,3 @@ checks s x =
     ∷ on (ltb (length (x .words)) (s .n)) 5
     ∷ on (not (allowed (x .entry))) 3
     ∷ kindChecks s (x .entry)
-
--- 4, 5 and 3 are passed
-pub record Entered (s : State) (x : Input) : Type 0 where
-  pub some : 0 < s .n
-  pub enough : s .n ≤ length (x .words)
-  pub fields : allowed (x .entry) ≡ true

@@ -3,8 +3,7 @@ use Prim.Native.Nat.{ℕ}
 use mathlib.Core.Bool.{cond}
 use mathlib.Core.List.{List}
 use lib.Dec.{eqb}
-use Rattle.exact.specs.Rows.{at, filled}
-use Rattle.exact.specs.Rows.{places}
+use Rattle.exact.specs.Rows.{places, at, filled}
 use Rattle.book.specs.Checks.{refusal}
 use Rattle.book.specs.rules.Kinds.{periodOf, isOpen}
 use Rattle.book.specs.rules.Periods.{fresh, Change, changed, leaves, zeros}

@@ -5,25 +5,25 @@ use native.Mathlib.Omega.{arith}
 use lib.ListN.{length}
 use borrow.Author.Tests.{not-true, not-false}
 use Rattle.exports.specs.Slices.{left}
-use Rattle.exports.specs.Orders.{lateInOrder, TiersSound}
+use Rattle.exports.specs.Orders.{lateMoneyInOrder, TiersSound}
 use Rattle.exports.proofs.OrderLaws.{Fitting, late-fitting}
 use borrow.Author.Needs.{needs}
 use Rattle.exports.proofs.clearing_late.Statement.{statement}
 use Rattle.exports.proofs.clearing_late.Tie as tie
 
-late-in-order-requires : tie.Need-late-in-order-requires
-late-in-order-requires c κs = search needs
+late-money-in-order-requires : tie.Need-late-money-in-order-requires
+late-money-in-order-requires c κs = search needs
 
 -- the arguments are in order where the test is passed
-passed : (c : tie.Else1) → let a = c .before .before .before .before .before .before .args in lateInOrder (a .n) (a .to .now) (a .claims .now) (a .paid .now) (a .money) (length (a .pays .now)) ≡ true
-passed c = sym (c .before .late-in-order .ensures) ∙ not-false _ (c .if1 .left)
+passed : (c : tie.Else1) → let a = c .before .before .before .before .before .before .args in lateMoneyInOrder (a .n) (a .to .now) (a .claims .now) (a .paid .now) (a .money) (length (a .pays .now)) ≡ true
+passed c = sym (c .before .late-money-in-order .ensures) ∙ not-false _ (c .if1 .left)
 
 known : (c : tie.Else1) → let a = c .before .before .before .before .before .before .args in Fitting (TiersSound (a .n) (a .to .now)) (min (length (a .claims .now)) (min (length (a .paid .now)) (length (a .pays .now))))
 known c = late-fitting _ _ _ _ _ _ (passed c)
 
 returns : tie.Need-returns
 unfolding left
-returns c = (sym (sym (c .before .late-in-order .ensures) ∙ not-true _ (c .if1 .taken)), refl)
+returns c = (sym (sym (c .before .late-money-in-order .ensures) ∙ not-true _ (c .if1 .taken)), refl)
 
 late-of-requires : tie.Need-late-of-requires
 late-of-requires c κs = let f = known c in (f .sound, omega (arith, f .roomy), omega (arith, f .roomy))
@@ -44,7 +44,7 @@ pub clearing-late-spec : {M : Type 1} → statement M
 clearing-late-spec =
     tie.close
     (tie.spec
-    late-in-order-requires
+    late-money-in-order-requires
     returns
     late-of-requires
     put-row-requires

@@ -6,9 +6,9 @@ use borrow.Author.Tests.{eq-eqb, ne-eqb, lt-ltb, eqb-true, eqb-false}
 use lib.ListN.{length}
 use Rattle.book.specs.Checks.{refusal}
 use Rattle.book.specs.rules.State.{view}
-use Rattle.book.specs.rules.Refusals.{Entered, openChecks, checks}
+use Rattle.book.specs.rules.Refusals.{openChecks, checks}
 use Rattle.book.specs.rules.Answers.{numberOf}
-use Rattle.book.specs.inner.Ways.{NamedAt}
+use Rattle.book.specs.inner.Ways.{NamedAt, Entered}
 use Rattle.book.proofs.records.Packing.{count-is}
 use Rattle.book.proofs.records.Replies.{to-open, not-found}
 use borrow.Author.Needs.{needs}

@@ -2,25 +2,25 @@ use mathlib.Core.Path.{_≡_, sym, _∙_}
 use mathlib.Core.Bool.{true}
 use native.Mathlib.Omega.{arith}
 use borrow.Author.Tests.{not-true, not-false, lt-leb}
-use Rattle.exports.specs.Orders.{TiersSound, allOf, tiersInOrder, inOrder}
+use Rattle.exports.specs.Orders.{TiersSound, allOf, owingInOrder, inOrder}
 use Rattle.exports.proofs.OrderLaws.{tiers-fitting, tested}
 use borrow.Author.Needs.{needs}
 use Rattle.exports.proofs.orders.in_order.Statement.{statement}
 use Rattle.exports.proofs.orders.in_order.Tie as tie
 
-tiers-in-order-requires : tie.Need-tiers-in-order-requires
-tiers-in-order-requires c κs = search needs
+owing-in-order-requires : tie.Need-owing-in-order-requires
+owing-in-order-requires c κs = search needs
 
 -- the side owing to participants is in order where the first test is passed
-passed : (c : tie.Else1) → let a = c .before .before .before .before .args in tiersInOrder (a .n) (a .to .now) (a .room) ≡ true
-passed c = sym (c .before .tiers-in-order .ensures) ∙ not-false _ (c .if1 .left)
+passed : (c : tie.Else1) → let a = c .before .before .before .before .args in owingInOrder (a .n) (a .to .now) (a .room) ≡ true
+passed c = sym (c .before .owing-in-order .ensures) ∙ not-false _ (c .if1 .left)
 
 known : (c : tie.Else1) → let a = c .before .before .before .before .args in TiersSound (a .n) (a .to .now)
 known c = tiers-fitting _ _ _ (passed c) .sound
 
 returns : tie.Need-returns
 unfolding allOf inOrder
-returns c = simp (sym (c .before .tiers-in-order .ensures) ∙ not-true _ (c .if1 .taken))
+returns c = simp (sym (c .before .owing-in-order .ensures) ∙ not-true _ (c .if1 .taken))
 
 returns-2 : tie.Need-returns-2
 unfolding allOf inOrder
@@ -44,7 +44,7 @@ pub in-order-spec : {M : Type 1} → statement M
 in-order-spec =
     tie.close
     (tie.spec
-    tiers-in-order-requires
+    owing-in-order-requires
     returns
     returns-2
     side-total-requires

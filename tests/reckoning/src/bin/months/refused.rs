@@ -1,4 +1,4 @@
-//! Arguments of months that 01 cannot have: refused, and nothing is written.
+//! Arguments that no month of 01 has: refused, and nothing is written.
 //! Their neighbours at the limit are taken.
 
 use crate::compare::Count;

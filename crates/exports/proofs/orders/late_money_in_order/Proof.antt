@@ -7,12 +7,12 @@ use borrow.Author.Tests.{not-true, not-false}
 use Rattle.exact.specs.Rows.{at, sum}
 use Rattle.exact.proofs.RowLaws.{sum-term, holds, sum-holds}
 use Rattle.exports.specs.Slices.{rowOf, owingOf}
-use Rattle.exports.specs.Orders.{TiersSound, allOf, eachAtMost, tiersInOrder, lateInOrder}
+use Rattle.exports.specs.Orders.{TiersSound, allOf, eachAtMost, owingInOrder, lateMoneyInOrder}
 use Rattle.exports.proofs.EachLaws.{each-holds, each-excess}
 use Rattle.exports.proofs.OrderLaws.{Fitting, tiers-fitting, last-test}
 use borrow.Author.Needs.{needs}
-use Rattle.exports.proofs.orders.late_in_order.Statement.{statement}
-use Rattle.exports.proofs.orders.late_in_order.Tie as tie
+use Rattle.exports.proofs.orders.late_money_in_order.Statement.{statement}
+use Rattle.exports.proofs.orders.late_money_in_order.Tie as tie
 
 shorter-requires : tie.Need-shorter-requires
 shorter-requires c κs = search needs
@@ -20,21 +20,21 @@ shorter-requires c κs = search needs
 shorter-requires-2 : tie.Need-shorter-requires-2
 shorter-requires-2 c κs = search needs
 
-tiers-in-order-requires : tie.Need-tiers-in-order-requires
-tiers-in-order-requires c κs = search needs
+owing-in-order-requires : tie.Need-owing-in-order-requires
+owing-in-order-requires c κs = search needs
 
 -- the first test is of the side owing to participants
-tiers-tested : (c : tie.After-tiers-in-order) → let a = c .before .before .before .before .before .before .args in c .tiers-in-order .result ≡ tiersInOrder (a .n) (a .to .now) (min (length (a .claims .now)) (min (length (a .paid .now)) (a .room)))
-tiers-tested c = rw (c .before .shorter2 .ensures, c .before .before .shorter .ensures) at (c .tiers-in-order .ensures)
+tiers-tested : (c : tie.After-owing-in-order) → let a = c .before .before .before .before .before .before .args in c .owing-in-order .result ≡ owingInOrder (a .n) (a .to .now) (min (length (a .claims .now)) (min (length (a .paid .now)) (a .room)))
+tiers-tested c = rw (c .before .shorter2 .ensures, c .before .before .shorter .ensures) at (c .owing-in-order .ensures)
 
-passed : (c : tie.Else1) → let a = c .before .before .before .before .before .before .before .args in tiersInOrder (a .n) (a .to .now) (min (length (a .claims .now)) (min (length (a .paid .now)) (a .room))) ≡ true
+passed : (c : tie.Else1) → let a = c .before .before .before .before .before .before .before .args in owingInOrder (a .n) (a .to .now) (min (length (a .claims .now)) (min (length (a .paid .now)) (a .room))) ≡ true
 passed c = sym (tiers-tested (c .before)) ∙ not-false _ (c .if1 .left)
 
 known : (c : tie.Else1) → let a = c .before .before .before .before .before .before .before .args in Fitting (TiersSound (a .n) (a .to .now)) (min (length (a .claims .now)) (min (length (a .paid .now)) (a .room)))
 known c = tiers-fitting _ _ _ (passed c)
 
 returns : tie.Need-returns
-unfolding allOf lateInOrder
+unfolding allOf lateMoneyInOrder
 returns c = simp (sym (tiers-tested (c .before)) ∙ not-true _ (c .if1 .taken))
 
 tier-cells-of-requires : tie.Need-tier-cells-of-requires
@@ -60,7 +60,7 @@ claims-owing : (c : tie.Else2) → let a = c .before .before .before .before .be
 claims-owing c = sym (claims-tested (c .before)) ∙ not-false _ (c .if2 .left)
 
 returns-2 : tie.Need-returns-2
-unfolding allOf lateInOrder
+unfolding allOf lateMoneyInOrder
 returns-2 c = simp (passed (c .before .before .before .before .before), sym (claims-tested (c .before)) ∙ not-true _ (c .if2 .taken))
 
 row-of-requires-2 : tie.Need-row-of-requires-2
@@ -74,7 +74,7 @@ paid-tested : (c : tie.After-each-at-most2) → let a = c .before .before .befor
 paid-tested c = c .each-at-most2 .ensures ∙ rw (c .before .row-of2 .ensures, c .before .before .before .before .row-of .ensures) refl
 
 returns-3 : tie.Need-returns-3
-unfolding allOf lateInOrder
+unfolding allOf lateMoneyInOrder
 returns-3 c = simp (passed (c .before .before .before .before .before .before .before .before), claims-owing (c .before .before .before), sym (paid-tested (c .before)) ∙ not-true _ (c .if3 .taken))
 
 excesses-requires : tie.Need-excesses-requires
@@ -91,18 +91,18 @@ total-requires c κs =
     (k .few, rw (unpaid c) (omega (arith, k .total, each-excess (rowOf (a .claims .now)) (owingOf (a .to .now)) (rowOf (a .paid .now)) (a .n) (claims-owing (c .before .before .before .before)))))
 
 returns-4 : tie.Need-returns-4
-unfolding allOf lateInOrder
+unfolding allOf lateMoneyInOrder
 returns-4 c =
     simp (passed (c .before .before .before .before .before .before .before .before .before .before), claims-owing (c .before .before .before .before .before), sym (paid-tested (c .before .before .before)) ∙ not-false _ (c .before .before .if3 .left))
     (rw (c .total .ensures, unpaid (c .before)) (last-test _))
 
-pub late-in-order-spec : {M : Type 1} → statement M
-late-in-order-spec =
+pub late-money-in-order-spec : {M : Type 1} → statement M
+late-money-in-order-spec =
     tie.close
     (tie.spec
     shorter-requires
     shorter-requires-2
-    tiers-in-order-requires
+    owing-in-order-requires
     returns
     tier-cells-of-requires
     over-tiers-requires
