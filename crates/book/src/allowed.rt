@@ -3,8 +3,7 @@ use crate::entries::Entry;
 use exact::PLACES;
 use settlement::TIERS;
 ghost use mathlib.Core.Path.{_≡_};
-ghost use Rattle.book.specs.layouts.Allowed.{allowed, none, tierOutside, centsOutside};
-ghost use Rattle.book.specs.declared.entries.Entry.the-variants.{Energy, Amount, Receipt};
+ghost use Rattle.book.specs.layouts.Allowed.{allowed, none, tierOutside, centsOutside, energyOutside, amountOutside, receiptOutside};
 
 const PARTICIPANTS: u8 = PLACES as u8;
 
@@ -29,7 +28,7 @@ fn tier_outside(side: u8, tier: u8) -> bool
 }
 
 fn energy_allowed(participant: u8, side: u8, quantity: u32, price: u32) -> bool
-    ensures { λ r. ⌜ r ≡ allowed (Energy 0 participant side quantity price) ⌝ }
+    ensures { λ r. ⌜ r ≡ none (energyOutside participant side quantity price) ⌝ }
 {
     if PARTICIPANTS <= participant {
         return false;
@@ -53,7 +52,7 @@ fn cents_allowed(cents: u64) -> bool
 }
 
 fn amount_allowed(participant: u8, side: u8, tier: u8, cents: u64) -> bool
-    ensures { λ r. ⌜ r ≡ allowed (Amount 0 participant side tier cents) ⌝ }
+    ensures { λ r. ⌜ r ≡ none (amountOutside participant side tier cents) ⌝ }
 {
     if PARTICIPANTS <= participant {
         return false;
@@ -68,7 +67,7 @@ fn amount_allowed(participant: u8, side: u8, tier: u8, cents: u64) -> bool
 }
 
 fn receipt_allowed(participant: u8, cents: u64) -> bool
-    ensures { λ r. ⌜ r ≡ allowed (Receipt 0 participant cents) ⌝ }
+    ensures { λ r. ⌜ r ≡ none (receiptOutside participant cents) ⌝ }
 {
     if PARTICIPANTS <= participant {
         return false;
@@ -81,7 +80,6 @@ pub fn is_allowed(e: Entry) -> bool
     ensures { λ r. ⌜ r ≡ allowed e ⌝ }
 {
     match e {
-        Entry::Open { period: _ } => true,
         Entry::Energy {
             period: _,
             participant,
@@ -96,12 +94,11 @@ pub fn is_allowed(e: Entry) -> bool
             tier,
             cents,
         } => amount_allowed(participant, side, tier, cents),
-        Entry::Notice { period: _ } => true,
         Entry::Receipt {
             period: _,
             participant,
             cents,
         } => receipt_allowed(participant, cents),
-        Entry::Settle { period: _ } => true,
+        _ => true,
     }
 }

@@ -66,8 +66,6 @@ pub fn way_at(b: Book, bytes: &[u8], place: usize, room: usize) -> Way
 {
     match read_next(bytes, place) {
         Reading::Found { entry, next } => way_of(b, entry, next, room),
-        Reading::Short => Way::Unread,
-        Reading::Unknown => Way::Unread,
-        Reading::Outside => Way::Unread,
+        _ => Way::Unread,
     }
 }

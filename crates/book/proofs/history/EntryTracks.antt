@@ -8,9 +8,9 @@ use native.Mathlib.Omega.{arith}
 use borrow.Author.Tests.{eqb-true}
 use Rattle.exact.specs.Rows.{places}
 use Rattle.book.specs.Checks.{refusal}
-use Rattle.book.specs.layouts.Entries.{kindOf, entryOf}
+use Rattle.book.specs.layouts.Entries.{kindOf, entryOf, field}
 use Rattle.book.specs.layouts.Allowed.{allowed}
-use Rattle.book.specs.rules.Kinds.{field, isOpen, isAmount, isReceipt, addition}
+use Rattle.book.specs.rules.Kinds.{isOpen, isAmount, isReceipt, addition}
 use Rattle.book.specs.rules.Periods.{zeros, Change, withAddition, changed}
 use Rattle.book.specs.rules.Refusals.{amountChecks, periodChecks}
 use Rattle.book.specs.rules.Valid.{Sound}

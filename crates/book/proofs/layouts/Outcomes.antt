@@ -5,6 +5,8 @@ use mathlib.Core.Bool.{cond}
 use mathlib.Core.List.{List, [], _∷_}
 use lib.Dec.{eqb}
 use lib.ListN.{getD}
+use types.Run.{OneOf, miss}
+use denote.Enum.Declared.{tagOf}
 use Rattle.book.specs.rules.Answers.{numberOf}
 use Rattle.book.specs.layouts.Reading.{ReadOutcome, readOutcome}
 use Rattle.book.specs.layouts.Writing.{WriteOutcome, writeOutcome}
@@ -15,6 +17,7 @@ use Rattle.book.specs.declared.reader.Reading.{Reading}
 use Rattle.book.specs.declared.reader.Reading.the-variants as reading
 use Rattle.book.specs.declared.writer.Writing.{Writing}
 use Rattle.book.specs.declared.writer.Writing.the-variants as writing
+use Rattle.book.proofs.reader.Reading.{the-type}
 
 abbrev readAgain : ReadOutcome → Reading
 readAgain o =
@@ -29,6 +32,13 @@ read-again place reading.Outside = refl
 
 pub read-one-to-one : (place : ℕ) (a b : Reading) → readOutcome place a ≡ readOutcome place b → a ≡ b
 read-one-to-one place a b e = sym (read-again place a) ∙ ap readAgain e ∙ read-again place b
+
+-- an answer in the last arm of a match that has one for an entry that was found
+pub not-found : (place : ℕ) (a : Reading) → OneOf (1 ∷ 2 ∷ 3 ∷ []) (tagOf the-type a) → readOutcome place a .entry ≡ []
+not-found place (reading.Found entry next) one = absurd (miss (1 ∷ 2 ∷ 3 ∷ []) 0 (tt {0}) one)
+not-found place reading.Short one = refl
+not-found place reading.Unknown one = refl
+not-found place reading.Outside one = refl
 
 abbrev writeAgain : WriteOutcome → Writing
 writeAgain o = cond (eqb (o .answer) 0) (writing.Wrote (o .count)) (cond (eqb (o .answer) 3) writing.Outside writing.NoRoom)

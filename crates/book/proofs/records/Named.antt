@@ -9,9 +9,9 @@ use lib.ListN.{length, getD}
 use Rattle.exact.specs.Rows.{at, sum}
 use Rattle.exact.proofs.Cases.{cases}
 use Rattle.book.specs.Checks.{refusal}
-use Rattle.book.specs.layouts.Entries.{kindOf, entryOf}
+use Rattle.book.specs.layouts.Entries.{kindOf, entryOf, field}
 use Rattle.book.specs.layouts.Allowed.{allowed, centsLimit}
-use Rattle.book.specs.rules.Kinds.{field, periodOf, isOpen, isReceipt, receiptCents}
+use Rattle.book.specs.rules.Kinds.{periodOf, isOpen, isReceipt, receiptCents}
 use Rattle.book.specs.rules.Periods.{leaves, holds, changed}
 use Rattle.book.specs.rules.State.{view, heldIn, find, noPeriod, periodAt, replaced, removed}
 use Rattle.book.specs.rules.Refusals.{Input, periodChecks, barring, checks}

@@ -6,8 +6,8 @@ use lib.Dec.{eqb, ltb, leb}
 use Rattle.exact.specs.Rows.{places}
 use Rattle.exact.specs.Energy.{quantityLimit, priceLimit}
 use Rattle.settlement.specs.Month.{tiers}
+use Rattle.book.specs.layouts.Entries.{kindOf, field}
 use Rattle.book.specs.declared.entries.Entry.{Entry}
-use Rattle.book.specs.declared.entries.Entry.the-variants.{Open, Energy, Amount, Notice, Receipt, Settle}
 
 -- the most cents of an amount or a receipt
 abbrev pub centsLimit : ℕ
@@ -21,16 +21,21 @@ tierOutside side tier = cond (eqb side 0) (not (eqb tier 0)) (cond (eqb tier 0) 
 abbrev pub centsOutside : ℕ → List Bool
 centsOutside cents = eqb cents 0 ∷ ltb centsLimit cents ∷ []
 
--- the tests that a field is outside its values; any period is allowed
+-- the tests that a field is outside its values, of each kind that has limits; any period is allowed
+abbrev pub energyOutside : (participant side quantity price : ℕ) → List Bool
+energyOutside participant side quantity price = leb places participant ∷ ltb 1 side ∷ ltb quantityLimit quantity ∷ ltb priceLimit price ∷ []
+
+abbrev pub amountOutside : (participant side tier cents : ℕ) → List Bool
+amountOutside participant side tier cents = leb places participant ∷ ltb 1 side ∷ tierOutside side tier ∷ centsOutside cents
+
+abbrev pub receiptOutside : (participant cents : ℕ) → List Bool
+receiptOutside participant cents = leb places participant ∷ centsOutside cents
+
 abbrev pub outside : Entry → List Bool
-outside (Open period) = []
-outside (Energy period participant side quantity price) =
-    leb places participant ∷ ltb 1 side ∷ ltb quantityLimit quantity ∷ ltb priceLimit price ∷ []
-outside (Amount period participant side tier cents) =
-    leb places participant ∷ ltb 1 side ∷ tierOutside side tier ∷ centsOutside cents
-outside (Notice period) = []
-outside (Receipt period participant cents) = leb places participant ∷ centsOutside cents
-outside (Settle period) = []
+outside e =
+    cond (eqb (kindOf e) 2) (energyOutside (field e 1) (field e 2) (field e 3) (field e 4))
+    (cond (eqb (kindOf e) 3) (amountOutside (field e 1) (field e 2) (field e 3) (field e 4))
+    (cond (eqb (kindOf e) 5) (receiptOutside (field e 1) (field e 2)) []))
 
 abbrev pub none : List Bool → Bool
 none [] = true

@@ -50,6 +50,10 @@ fieldsOf (Notice period) = period ∷ []
 fieldsOf (Receipt period participant cents) = period ∷ participant ∷ cents ∷ []
 fieldsOf (Settle period) = period ∷ []
 
+-- one of them, counted from 0
+abbrev pub field : Entry → ℕ → ℕ
+field e j = getD (fieldsOf e) j 0
+
 -- the entry of a known kind with given fields
 unfoldable pub entryOf : ℕ → List ℕ → Entry
 entryOf kind f =

@@ -2,6 +2,7 @@ use mathlib.Core.Path.{_≡_, sym, ap, _∙_}
 use mathlib.Core.List.{[], _∷_}
 use denote.Ref.{now}
 use Rattle.book.specs.layouts.Reading.{ReadOutcome, reading, readOutcome}
+use Rattle.book.proofs.layouts.Outcomes.{not-found}
 use Rattle.book.proofs.runs.RunLaws.{read-allowed}
 use Rattle.book.proofs.runs.RunTurns.{decides}
 use borrow.Author.Needs.{needs}
@@ -22,26 +23,11 @@ enum-known-entry c = search needs
 way-of-requires : tie.Need-way-of-requires
 way-of-requires c κs = (c .before .before .before .before .before .pre, read-allowed _ _ _ (ap (λ (o : ReadOutcome). o .entry) (read c)))
 
-enum-told : tie.Need-enum-told
-enum-told c = search needs
-
-enum-told-2 : tie.Need-enum-told-2
-enum-told-2 c = search needs
-
-enum-told-3 : tie.Need-enum-told-3
-enum-told-3 c = search needs
-
 returns : tie.Need-returns
 returns c = let s = c .before .before .before .before .before .before .args in decides (s .b) _ _ (s .room) _ _ (read (c .before)) (c .way-of .result) (c .way-of .ensures)
 
 returns-2 : tie.Need-returns-2
-returns-2 c = ap (λ (o : ReadOutcome). o .entry) (sym (c .before .before .read-next .ensures) ∙ ap (readOutcome (c .before .before .before .before .args .place)) (c .enum-told .given .1))
-
-returns-3 : tie.Need-returns-3
-returns-3 c = ap (λ (o : ReadOutcome). o .entry) (sym (c .before .before .read-next .ensures) ∙ ap (readOutcome (c .before .before .before .before .args .place)) (c .enum-told2 .given .1))
-
-returns-4 : tie.Need-returns-4
-returns-4 c = ap (λ (o : ReadOutcome). o .entry) (sym (c .before .before .read-next .ensures) ∙ ap (readOutcome (c .before .before .before .before .args .place)) (c .enum-told3 .given .1))
+returns-2 c = sym (ap (λ (o : ReadOutcome). o .entry) (c .before .read-next .ensures)) ∙ not-found (c .before .before .before .args .place) (c .before .read-next .result) (c .match .keys2)
 
 pub way-at-spec : {M : Type 1} → statement M
 way-at-spec =
@@ -50,10 +36,5 @@ way-at-spec =
     read-next-requires
     enum-known-entry
     way-of-requires
-    enum-told
-    enum-told-2
-    enum-told-3
     returns
-    returns-2
-    returns-3
-    returns-4)
+    returns-2)
