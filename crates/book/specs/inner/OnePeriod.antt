@@ -11,7 +11,7 @@ use Rattle.book.specs.Checks.{refusal}
 use Rattle.book.specs.rules.Periods as period
 use Rattle.book.specs.layouts.Allowed.{allowed}
 use Rattle.book.specs.rules.Kinds.{isOpen, receiptCents}
-use Rattle.book.specs.rules.Refusals.{periodChecks}
+use Rattle.book.specs.rules.Refusals.{receiptChecks, periodChecks}
 use Rattle.book.specs.rules.Step.{payoutWords}
 use Rattle.book.specs.rules.Valid.{InBook}
 use Rattle.book.specs.rules.Answers.{numberOf}
@@ -34,6 +34,11 @@ pub record Room (p : Period) (i side tier cents : ℕ) : Type 0 where
 pub record Passes (n : ℕ) (e : Entry) (p : Period) : Type 0 where
   pub barred : Bool
   pub passed : refusal (periodChecks n barred e p) ≡ 0
+
+-- a receipt of these cents from i passed them
+pub record Received (n : ℕ) (p : Period) (i cents : ℕ) : Type 0 where
+  pub barred : Bool
+  pub passed : refusal (receiptChecks n barred p i cents) ≡ 0
 
 -- what a function hands back of a change
 abbrev pub changeOf : Change → period.Change
