@@ -1,9 +1,9 @@
 // C exports: the exact proportion; over slices, notice, scaled amounts, settlement and late money of one month.
 // Arguments are in order where n is 1 to 64, rows have 64 cells or more and tiers 320, the sides' totals are equal and
 // within their bound, nothing received is above what is payable, no claim above what is owing, nothing paid above its
-// claim, and no late money above the unpaid claims. Others are refused: no month of 01 has them, and its amounts would not
-// be those of the rules. Claims and payments that pass need not be those of a settlement: that would take the sums owing
-// by and the receipts, which `clearing_late` is not handed.
+// claim, and no late money above the unpaid claims. Others are refused: no month of 01 has them, and no rule of it gives
+// their amounts. Claims and payments that pass need not be those of a settlement: that would take the sums owing by and
+// the receipts, which `clearing_late` is not handed.
 mod months;
 mod orders;
 mod slices;

@@ -12,4 +12,4 @@ pub use Rattle.settlement.proofs.SettleLaws.{available-exact, tierRest,
 pub use Rattle.settlement.proofs.SettleLaws.{paid-le, paid-near, paid-full, rounds-le, rounds-none, held-cases, held-exact, held-le}
 pub use Rattle.settlement.proofs.EnoughRounds.{rounds-suffice, settlement-ends}
 -- late money
-pub use Rattle.settlement.proofs.LateLaws.{fill-sum, fill-mono, shortage-cong, shortage-sum, paid-through, pay, late-near, late-le, late-full, tiers-in-order}
+pub use Rattle.settlement.proofs.LateLaws.{fill-sum, fill-mono, shortage-cong, shortage-sum, paid-through, pay, late-near, late-le, late-full, late-open, tiers-in-order}

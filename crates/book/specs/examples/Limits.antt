@@ -82,7 +82,7 @@ pub record FieldLimits : Type 0 where
   pub least-cents-receipt : of64 mostPayable (Receipt 1 63 1 ∷ Receipt 1 63 0 ∷ []) ≡ 0 ∷ 3 ∷ []
   pub most-cents-receipt : of64 mostPayable (Receipt 1 63 10_000_000_000_000 ∷ Receipt 1 63 10_000_000_000_001 ∷ []) ≡ 0 ∷ 3 ∷ []
 
--- reading and writing (01, Entries, and Refused, numbers 1, 2 and 5), with each field at its largest
+-- reading and writing (01, Entries, and Refused, numbers 1, 2, 3 and 5), with each field at its largest
 pub record ByteLimits : Type 0 where
   pub opening : JustBytes (1 ∷ periodBytes) (Open 4_294_967_295)
   pub energy : JustBytes (2 ∷ periodBytes ++ 63 ∷ 1 ∷ quantityBytes ++ priceBytes) (Energy 4_294_967_295 63 1 100_000_000 10_000_000)

@@ -6,7 +6,7 @@ use Rattle.book.specs.Checks.{refusal}
 use Rattle.book.specs.rules.Refusals.{amountChecks}
 use Rattle.book.specs.declared.kinds.Addition.{Addition}
 use Rattle.book.proofs.rules.Passing.{receipt-inside}
-use Rattle.book.proofs.rules.AdditionLaws.{amount-checks, Within, amount-within}
+use Rattle.book.proofs.rules.AdditionLaws.{amount-checks, WithinLimits, amount-within}
 use Rattle.book.proofs.rules.KindLaws.{not-kind}
 use Rattle.book.proofs.rules.ChangeLaws.{total-within}
 use Rattle.book.proofs.runs.PostingSteps.{placed-side, kept-answer}
@@ -15,7 +15,7 @@ use Rattle.book.proofs.refusals.period_answer.Statement.{statement}
 use Rattle.book.proofs.refusals.period_answer.Tie as tie
 
 -- what the entry adds is within its limits
-within : (c : tie.After-addition-of) → Within (c .addition-of .result)
+within : (c : tie.After-addition-of) → WithinLimits (c .addition-of .result)
 within c = rw (c .addition-of .ensures) (amount-within (c .before .before .before .args .e) (sym (c .before .before .is-amount .ensures) ∙ c .before .if1 .taken) (c .before .before .before .pre .1))
 
 side-below : (c : tie.After-addition-of) → c .addition-of .result .side < 2
