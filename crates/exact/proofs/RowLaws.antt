@@ -8,9 +8,9 @@ use native.Mathlib.Omega.{arith}
 use native.Mathlib.Nat.{eq-or-lt-of-le, le-of-suc-le-suc, not-suc-le-zero, suc-inj, max-le}
 use native.Mathlib.Numerals.{add-one}
 use lib.Dec.{eqb}
-use lib.ListN.{getD, drop, set, length, length-append, length-drop, List·getD-append, replicate, getD-replicate}
+use lib.ListN.{getD, drop, set, length, length-append, length-drop, length-replicate, List·getD-append, List·getD-eq-default, replicate, getD-replicate}
 use lib.Seq.{drop-cons, drop-at, set-at, getD-at, set-getD}
-use Rattle.exact.proofs.Cases.{cases-eq}
+use Rattle.exact.proofs.Cases.{cases-eq, le-or-lt}
 use Rattle.exact.specs.Rows.{places, at, sum, largest, table, filled, cells}
 
 module _ (f : ℕ → ℕ) where
@@ -175,14 +175,30 @@ module _ {A : Type 0} (f : ℕ → A) where
       rw (add-one n) at (sym (filled-more z n d h))
       ∙ rw (filled-same z n d (omega arith) (λ i k. e i (omega arith)), e n (omega arith)) (set-getD d n z)
 
+  -- the places from n on stay, and only they count
+  pub filled-drop : (n : ℕ) (d : List A) → drop n (filled f n d) ≡ drop n d
+  unfolding filled
+  filled-drop n d = drop-at (table f n) (drop n d) n (table-length n)
+
+  pub filled-over : (n : ℕ) (d e : List A) → drop n d ≡ drop n e → filled f n d ≡ filled f n e
+  unfolding filled
+  filled-over n d e h = ap (λ (l : List A). table f n ++ l) h
+
   -- filled twice is filled once
   pub filled-again : (n : ℕ) (d : List A) → filled f n (filled f n d) ≡ filled f n d
-  unfolding filled
-  filled-again n d = ap (λ (l : List A). table f n ++ l) (drop-at (table f n) (drop n d) n (table-length n))
+  filled-again n d = filled-over n (filled f n d) d (filled-drop n d)
 
   pub filled-cong : (g : ℕ → A) (n : ℕ) (d : List A) → ((i : ℕ) → i < n → f i ≡ g i) → filled f n d ≡ filled g n d
   unfolding filled
   filled-cong g n d h = ap (λ (l : List A). l ++ drop n d) (table-cong g n h)
+
+-- an array of zeros has 0 at every place, and past its end
+pub zero-at : (k i : ℕ) → at (replicate k 0) i ≡ 0
+zero-at k i =
+    ⊎-elim
+    (λ h. List·getD-eq-default (replicate k 0) 0 (omega (arith, length-replicate {A = ℕ} k 0)))
+    (λ h. getD-replicate {A = ℕ} k i 0 0 h)
+    (le-or-lt k i)
 
 module _ (f : ℕ → ℕ) where
   -- a row's array is filled cell by cell
