@@ -9,8 +9,15 @@ pub use Rattle.book.proofs.rules.ValidLaws.{stays-valid, refusal-change
 -- demand 3, of entries one after the other and of block runs among them
 pub use Rattle.book.proofs.history.Demand3.{demand3}
 pub use Rattle.book.proofs.runs.BlockRuns.{block-runs}
+-- reading in a part of the bytes
+pub use Rattle.book.proofs.layouts.ReadLaws.{onward, reading-front, reading-before, read-within, reading-empty, none-answer, reading-none, short-few}
+-- the payout words that an entry is lent
+pub use Rattle.book.proofs.rules.WordLaws.{Alike, alike, alike-paid, paid-accepted, paid-refused}
 -- what a run leaves of its room
 pub use Rattle.book.proofs.runs.RunValid.{Within, run-within}
+-- a run, entry by entry
+pub use Rattle.book.proofs.runs.RunLaws.{read-or-none, run-full, run-unread, run-read, Ends}
+pub use Rattle.book.proofs.runs.RunReplies.{reply-n}
 -- examples
 pub use Rattle.book.proofs.examples.Months.{examples}
 pub use Rattle.book.proofs.examples.Limits.{limits}

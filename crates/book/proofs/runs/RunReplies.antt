@@ -25,7 +25,7 @@ use Rattle.book.proofs.history.Histories.{step-n}
 use Rattle.book.proofs.runs.RunLaws.{read-or-none}
 
 -- an entry leaves the number of participants
-reply-n : (b : Book) (x : Input) → reply b x .book .n ≡ b .n
+pub reply-n : (b : Book) (x : Input) → reply b x .book .n ≡ b .n
 unfolding reply pack
 reply-n b x = step-n (view b) x
 
