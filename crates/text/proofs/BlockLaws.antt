@@ -8,7 +8,7 @@ use native.Mathlib.Numerals.{add-one}
 use borrow.Author.Tests.{leb-true}
 use lib.Dec.{leb}
 use lib.ListN.{length, set, getD, take, drop, length-append, length-drop}
-use lib.Seq.{length-take-le, drop-at, getD-drop, take-suc, drop-cons, set-at, append-snoc}
+use lib.Seq.{length-take-le, take-at, take-add, drop-at, getD-drop, take-suc, drop-cons, set-at, append-snoc}
 use Rattle.text.specs.Blocks.{kept}
 
 pub kept-none : (b : List ℕ) (from : ℕ) → b ≡ kept b from 0
@@ -37,6 +37,20 @@ module _ (b : List ℕ) (from i : ℕ) where
       ∙ sym (getD-drop from b i 0) in
       rw (same, drop-cons b i 0 (omega arith), add-one i, take-suc s i 0 less)
       (set-at (take i s) (getD b i 0) (drop (suc i) b) (getD s i 0) i front ∙ sym (append-snoc (take i s) (getD s i 0) (drop (suc i) b)))
+
+-- the bytes from one place up to another, in two ways
+pub part-front : (b : List ℕ) (from to : ℕ) → to ≤ length b → from ≤ to → take (to - from) (drop from b) ≡ drop from (take to b)
+part-front b from to h k =
+    let e : from + (to - from) ≡ to = omega arith in
+    let m : length (take from b) ≡ from = length-take-le from b (omega arith) in
+    sym (drop-at (take from b) (take (to - from) (drop from b)) from m) ∙ ap (drop from) (sym (take-add from (to - from) b) ∙ ap (λ (j : ℕ). take j b) e)
+
+-- what was kept stands in front
+pub kept-front : (b : List ℕ) (from to : ℕ) → to ≤ length b → from ≤ to → take (to - from) (kept b from (to - from)) ≡ drop from (take to b)
+unfolding kept
+kept-front b from to h k =
+    let n : length (take (to - from) (drop from b)) ≡ to - from = length-take-le (to - from) (drop from b) (omega (arith, length-drop from b)) in
+    take-at (take (to - from) (drop from b)) (drop (to - from) b) (to - from) n ∙ part-front b from to h k
 
 -- no more bytes wait than may
 pub waiting-le : (wrote most wait : ℕ) → wait ≡ cond (leb wrote most) wrote 0 → wait ≤ most

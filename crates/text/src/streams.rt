@@ -1,0 +1,147 @@
+// Standard input, standard output and standard error. The fields of a stream are private: no program counts bytes that
+// these functions did not read or hand over, or says of an input that it has ended which they did not see end.
+ghost use Prim.Native.Nat.{_+_, _%_, _^_, _≤_, _<_};
+ghost use mathlib.Core.Path.{_≡_};
+ghost use mathlib.Core.Bool.{true};
+ghost use lib.ListN.{length};
+ghost use Rattle.text.specs.Streams.{isEnded, isFailed, lastOf, Fetches};
+ghost use Rattle.text.specs.declared.streams.Last.the-variants.{More};
+use libc::STDERR_FILENO;
+use libc::STDIN_FILENO;
+use libc::STDOUT_FILENO;
+
+// What the last read left: more bytes than before, the end of the input, or nothing, since it failed.
+pub enum Last {
+    More,
+    Ended,
+    Failed,
+}
+
+// An input: how many bytes were read of it, modulo 2^64, and what the last read left.
+pub struct Input {
+    total: u64,
+    last: Last,
+}
+
+// An output: how many bytes were handed over for writing, modulo 2^64, and whether all of the last were written.
+pub struct Output {
+    total: u64,
+    all: bool,
+}
+
+// An input of which nothing was read.
+pub fn unread() -> Input
+    ensures { λ r. ⌜ r ≡ record { total = 0; last = More } ⌝ }
+{
+    Input {
+        total: 0,
+        last: Last::More,
+    }
+}
+
+// An output to which nothing was written.
+pub fn unwritten() -> Output
+    ensures { λ r. ⌜ r ≡ record { total = 0; all = true } ⌝ }
+{
+    Output {
+        total: 0,
+        all: true,
+    }
+}
+
+// Whether the last read was at the end of the input.
+pub fn has_ended(i: Input) -> bool
+    ensures { λ r. ⌜ r ≡ isEnded (i .last) ⌝ }
+{
+    let last = i.last;
+    match last {
+        Last::More => false,
+        Last::Ended => true,
+        Last::Failed => false,
+    }
+}
+
+// Whether the last read failed.
+pub fn has_failed(i: Input) -> bool
+    ensures { λ r. ⌜ r ≡ isFailed (i .last) ⌝ }
+{
+    let last = i.last;
+    match last {
+        Last::More => false,
+        Last::Ended => false,
+        Last::Failed => true,
+    }
+}
+
+// Whether all bytes that were last handed over were written.
+pub fn is_written(o: Output) -> bool
+    ensures { λ r. ⌜ r ≡ o .all ⌝ }
+{
+    o.all
+}
+
+// An input after a read, and how many bytes of the block there are then.
+pub struct Fetched {
+    pub input: Input,
+    pub filled: usize,
+}
+
+// What a read left of which C answered `got`, by how many bytes there were and are.
+fn last_of(got: isize, filled: usize, count: usize) -> Last
+    ensures { λ r. ⌜ r ≡ lastOf got filled count ⌝ }
+{
+    if count != filled {
+        return Last::More;
+    }
+    if got < 0 {
+        return Last::Failed;
+    }
+    Last::Ended
+}
+
+// Reads once from standard input, behind the first `filled` bytes. There is room behind them, so that a read of no byte is
+// the end of the input.
+pub fn read_more(i: Input, block: &mut [u8], filled: usize) -> Fetched
+    requires { ⌜ filled < length (now block) ⌝ }
+    ensures { λ r. ⌜ Fetches (i .total) (now (block .entry)) filled (now (block .exit)) r ⌝ }
+{
+    let rest = &mut block[filled..];
+    let got = libc::read(STDIN_FILENO, rest);
+    let more = io::count(got, rest);
+    let count = filled + more;
+    Fetched {
+        input: Input {
+            total: std::num::wrapping_add_u64(i.total, more as u64),
+            last: last_of(got, filled, count),
+        },
+        filled: count,
+    }
+}
+
+// Writes the first `count` bytes to a file.
+fn write(fd: i32, o: Output, block: &[u8], count: usize) -> Output
+    requires { ⌜ count ≤ length (now block) ⌝ }
+    ensures { λ r. ⌜ r .total ≡ (o .total + count) % 2 ^ 64 ⌝ }
+{
+    let all = io::write_all(fd, &block[0..count]);
+    Output {
+        total: std::num::wrapping_add_u64(o.total, count as u64),
+        all,
+    }
+}
+
+// Writes the first `count` bytes to standard output.
+pub fn write_out(o: Output, block: &[u8], count: usize) -> Output
+    requires { ⌜ count ≤ length (now block) ⌝ }
+    ensures { λ r. ⌜ r .total ≡ (o .total + count) % 2 ^ 64 ⌝ }
+{
+    write(STDOUT_FILENO, o, block, count)
+}
+
+// Writes the first `count` bytes to standard error.
+pub fn write_error(o: Output, block: &[u8], count: usize) -> Output
+    requires { ⌜ count ≤ length (now block) ⌝ }
+    ensures { λ r. ⌜ r .total ≡ (o .total + count) % 2 ^ 64 ⌝ }
+{
+    write(STDERR_FILENO, o, block, count)
+}
