@@ -1,0 +1,9 @@
+mod LineLaws
+mod ListingLaws
+mod PieceLaws
+mod RunLists
+mod RunTurns
+mod BlockTurns
+mod BeginLaws
+mod SessionLaws
+mod Examples

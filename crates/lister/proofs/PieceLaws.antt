@@ -1,0 +1,67 @@
+-- Listings put one after the other, and an input that comes in pieces.
+use Prim.Native.Nat.{ℕ, _+_, _%_, _^_}
+use mathlib.Core.Path.{_≡_, refl, sym, ap, subst, _∙_}
+use mathlib.Core.List.{List, [], _∷_, _++_, append-assoc, append-nil}
+use Rattle.book.specs.declared.Book.{Book}
+use Rattle.lister.specs.Lines.{header}
+use Rattle.lister.specs.Listing.{listingFrom, listing, bookFor}
+use Rattle.lister.specs.Pieces.{Stand, fed, rest, Lists, Stands, Turn, Follow, pieces, puts, JoinedPieces}
+use Rattle.lister.proofs.ListingLaws.{listing-mod}
+
+pub lists-none : (a : Stand) → Lists a [] a
+lists-none a = record { whole = λ more. refl }
+
+pub lists-then : {a b c : Stand} {l r : List ℕ} → Lists a l b → Lists b r c → Lists a (l ++ r) c
+lists-then {a} {b} {c} {l} {r} f g = record {
+  whole = λ more. f .whole more ∙ ap (λ (x : List ℕ). l ++ x) (g .whole more) ∙ sym (append-assoc l r (rest (fed c more)));
+}
+
+-- the number of the next entry is kept modulo 2 ^ 64
+pub lists-mod : {a : Stand} {l s : List ℕ} {m k : ℕ} {b : Book} → Lists a l (record { number = m; book = b; left = s }) → m % 2 ^ 64 ≡ k % 2 ^ 64
+    → Lists a l (record { number = k; book = b; left = s })
+lists-mod {a} {l} {s} {m} {k} {b} f h = record { whole = λ more. f .whole more ∙ ap (λ (x : List ℕ). l ++ x) (listing-mod m k b (s ++ more) h) }
+
+-- n was handed over, and what stands behind it
+pub stands-first : (n : ℕ) (s : List ℕ) → Stands (n ∷ s) header (record { number = 1; book = bookFor n; left = s })
+unfolding listing
+stands-first n s = record { whole = λ more. refl }
+
+module _ {seen put : List ℕ} {a : Stand} (s : Stands seen put a) where
+  -- a piece more of the input
+  pub stands-fed : (piece : List ℕ) → Stands (seen ++ piece) put (fed a piece)
+  stands-fed piece = record {
+    whole = λ more.
+        ap listing (append-assoc seen piece more) ∙ s .whole (piece ++ more)
+        ∙ ap (λ (l : List ℕ). put ++ listingFrom (a .number) (a .book) l) (sym (append-assoc (a .left) piece more));
+  }
+
+  -- some of it is listed
+  pub stands-listed : {l : List ℕ} {z : Stand} → Lists a l z → Stands seen (put ++ l) z
+  stands-listed {l} {z} f = record {
+    whole = λ more. s .whole more ∙ ap (λ (x : List ℕ). put ++ x) (f .whole more) ∙ sym (append-assoc put l (rest (fed z more)));
+  }
+
+  -- nothing follows
+  pub stands-now : listing seen ≡ put ++ rest a
+  stands-now =
+      ap listing (sym (append-nil seen)) ∙ s .whole [] ∙ ap (λ (l : List ℕ). put ++ listingFrom (a .number) (a .book) l) (append-nil (a .left))
+
+  -- the listing is whole, at the end of the input or whatever follows
+  pub stands-ended : {l : List ℕ} → rest a ≡ l → listing seen ≡ put ++ l
+  stands-ended e = stands-now ∙ ap (λ (x : List ℕ). put ++ x) e
+
+  pub stands-closed : {l : List ℕ} → ((more : List ℕ) → rest (fed a more) ≡ l) → (more : List ℕ) → listing (seen ++ more) ≡ put ++ l
+  stands-closed e more = s .whole more ∙ ap (λ (x : List ℕ). put ++ x) (e more)
+
+follow-stands : {seen put : List ℕ} {a z : Stand} (ts : List Turn) → Stands seen put a → Follow a ts z → Stands (seen ++ pieces ts) (put ++ puts ts) z
+follow-stands {seen} {put} {a} {z} [] s f =
+    subst (λ (l : List ℕ). Stands l (put ++ []) z) (sym (append-nil seen)) (subst (λ (l : List ℕ). Stands seen l z) (sym (append-nil put)) (subst (Stands seen put) f s))
+follow-stands {seen} {put} {a} {z} (t ∷ ts) s f =
+    subst (λ (l : List ℕ). Stands l (put ++ (t .put ++ puts ts)) z) (append-assoc seen (t .piece) (pieces ts))
+    (subst (λ (l : List ℕ). Stands ((seen ++ t .piece) ++ pieces ts) l z) (append-assoc put (t .put) (puts ts))
+    (follow-stands ts (stands-listed (stands-fed s (t .piece)) (f .0)) (f .1)))
+
+pub joined-pieces : JoinedPieces
+joined-pieces n ts z f =
+    let s = follow-stands ts (stands-first n []) f in
+    record { so-far = s; at-the-end = λ put e. stands-ended s e; before-all = λ put e more. stands-closed s e more }

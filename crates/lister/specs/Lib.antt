@@ -1,0 +1,7 @@
+pub mod Lines
+pub mod Listing
+pub mod Pieces
+pub mod Sessions
+pub mod Messages
+pub mod inner
+pub mod Examples

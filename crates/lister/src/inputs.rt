@@ -1,0 +1,126 @@
+// The input, block after block. What reads and writes is here and in `text`: no contract can say what the C library
+// delivers or writes, so these lines are short.
+ghost use mathlib.Core.Path.{_≡_};
+ghost use Rattle.lister.specs.Listing.{lent};
+ghost use Rattle.lister.specs.Sessions.{Session};
+ghost use Rattle.lister.specs.inner.Blocks.{Begun};
+use crate::blocks::Next;
+use crate::blocks::OUT;
+use crate::blocks::Out;
+use crate::blocks::at_first;
+use crate::blocks::list_block;
+use crate::ends::End;
+use crate::ends::Ending;
+use crate::ends::ended_by;
+use crate::ends::why_ended;
+use crate::lines::WORDS;
+use crate::lines::Words;
+use crate::lines::put_header;
+use crate::runs::LINES;
+use crate::runs::Lines;
+use book::Book;
+use text::Fetched;
+use text::Output;
+use text::has_ended;
+use text::has_failed;
+use text::is_written;
+use text::keep;
+use text::part;
+use text::read_more;
+use text::unread;
+use text::unwritten;
+use text::write_out;
+
+// The bytes of a block of input.
+const BLOCK: usize = 65536;
+
+type Block = [u8; BLOCK];
+
+// The most turns: as many as there are numbers of 64 bits but one.
+const TURNS: u64 = 0xffff_ffff_ffff_ffff;
+
+fn size(n: u8) -> usize
+    ensures { λ r. ⌜ r ≡ n ⌝ }
+{
+    n as usize
+}
+
+// Lists block after block. Each turn lists, writes out what was listed and, where the bytes left are a part of an entry,
+// moves them to the front and reads behind them.
+fn list_blocks(
+    first: Book,
+    read: Fetched,
+    headed: Output,
+    feed: &mut Block,
+    out: &mut Out,
+    words: &mut Words,
+    lines: &mut Lines,
+) -> Ending
+    requires { ⌜ Begun first read headed (now feed) (now words) ⌝ }
+    ensures { λ r. ⌜ Session r ⌝ }
+{
+    let mut s = at_first(first);
+    let mut input = read.input;
+    let mut filled = read.filled;
+    let mut output = headed;
+    let mut turns: u64 = 0;
+    while turns < TURNS {
+        turns += 1;
+        let ended = has_ended(input);
+        let t = list_block(s, part(feed, 0, filled), ended, out, words, lines);
+        s = t;
+        let w = write_out(output, out, s.wrote);
+        output = w;
+        if !is_written(output) {
+            return ended_by(End::NotWritten, turns, input, output);
+        }
+        let next = s.next;
+        match next {
+            Next::Again => {}
+            Next::Read => {
+                filled = keep(feed, s.place, filled);
+                s.place = 0;
+                let r = read_more(input, feed, filled);
+                filled = r.filled;
+                let i = r.input;
+                input = i;
+                if has_failed(input) {
+                    return ended_by(End::NotRead, turns, input, output);
+                }
+            }
+            Next::Done => return ended_by(why_ended(input), turns, input, output),
+        }
+    }
+    ended_by(End::Turns, turns, input, output)
+}
+
+// Writes the header, reads n and lists the entries behind it.
+fn list_input(feed: &mut Block, out: &mut Out, words: &mut Words, lines: &mut Lines) -> Ending
+    requires { ⌜ now words ≡ lent ⌝ }
+    ensures { λ r. ⌜ Session r ⌝ }
+{
+    let headed = put_header(out, 0);
+    let output = write_out(unwritten(), out, headed);
+    if !is_written(output) {
+        return ended_by(End::NotWritten, 0, unread(), output);
+    }
+    let read = read_more(unread(), feed, 0);
+    if read.filled == 0 {
+        let input = read.input;
+        return ended_by(why_ended(input), 0, input, output);
+    }
+    let made = book::new(size(feed[0]));
+    let first = made.book;
+    list_blocks(first, read, output, feed, out, words, lines)
+}
+
+// Lists standard input on standard output.
+pub fn list() -> Ending
+    ensures { λ r. ⌜ Session r ⌝ }
+{
+    let mut feed = [0u8; BLOCK];
+    let mut out = [0u8; OUT];
+    let mut words = [0u64; WORDS];
+    let mut lines = [0u64; LINES];
+    list_input(&mut feed, &mut out, &mut words, &mut lines)
+}
