@@ -1,12 +1,9 @@
--- Bytes moved to the front of a block, and bytes that wait to be written out.
+-- Bytes moved to the front of a block.
 use Prim.Native.Nat.{ℕ, suc, _+_, _-_, _≤_, _<_}
 use mathlib.Core.Path.{_≡_, refl, sym, ap, _∙_}
-use mathlib.Core.Bool.{Bool, true, false, cond}
 use mathlib.Core.List.{List, _++_}
 use native.Mathlib.Omega.{arith}
 use native.Mathlib.Numerals.{add-one}
-use borrow.Author.Tests.{leb-true}
-use lib.Dec.{leb}
 use lib.ListN.{length, set, getD, take, drop, length-append, length-drop}
 use lib.Seq.{length-take-le, take-at, take-add, drop-at, getD-drop, take-suc, drop-cons, set-at, append-snoc}
 use Rattle.text.specs.Blocks.{kept}
@@ -51,11 +48,3 @@ unfolding kept
 kept-front b from to h k =
     let n : length (take (to - from) (drop from b)) ≡ to - from = length-take-le (to - from) (drop from b) (omega (arith, length-drop from b)) in
     take-at (take (to - from) (drop from b)) (drop (to - from) b) (to - from) n ∙ part-front b from to h k
-
--- no more bytes wait than may
-pub waiting-le : (wrote most wait : ℕ) → wait ≡ cond (leb wrote most) wrote 0 → wait ≤ most
-waiting-le wrote most wait h = go (leb wrote most) refl h
-  where
-    go : (t : Bool) → leb wrote most ≡ t → wait ≡ cond t wrote 0 → wait ≤ most
-    go true e w = omega (arith, w, leb-true wrote most e)
-    go false e w = omega (arith, w)

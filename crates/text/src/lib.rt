@@ -4,8 +4,6 @@ mod numbers;
 mod puts;
 mod streams;
 
-pub use blocks::fill;
-pub use blocks::flush;
 pub use blocks::keep;
 pub use blocks::part;
 pub use numbers::put_number;

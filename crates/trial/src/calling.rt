@@ -32,7 +32,7 @@ const WORD: u64 = 9;
 
 const BYTE: u8 = 238;
 
-// The book that a call leaves, and the place after its line.
+// The book that a call leaves, and how many bytes its line takes.
 pub struct Called {
     pub book: Book,
     pub wrote: usize,
@@ -49,15 +49,15 @@ fn wide(x: u8) -> u64 {
 }
 
 // Makes the book that all later calls go to.
-fn make(s: &[u8], out: &mut [u8; BLOCK], wrote: usize) -> Called
-    requires { ⌜ (9 ≤ length (now s)) × (wrote ≤ 57344) ⌝ }
+fn make(s: &[u8], out: &mut [u8; BLOCK]) -> Called
+    requires { ⌜ 9 ≤ length (now s) ⌝ }
     ensures { λ r. ⌜ Valid (r .book) × (r .wrote ≤ 65536) ⌝ }
 {
     let made = book::new(number_at(s, 1, 8) as usize);
     let answer = made.answer;
     let mut numbers = [0u64; NUMBERS];
     numbers[0] = book::number(answer);
-    let next = put_line(out, wrote, b"book ", &numbers, 1);
+    let next = put_line(out, b"book ", &numbers, 1);
     let left = made.book;
     Called {
         book: left,
@@ -66,8 +66,8 @@ fn make(s: &[u8], out: &mut [u8; BLOCK], wrote: usize) -> Called
 }
 
 // Applies an entry.
-fn apply(b: Book, s: &[u8], out: &mut [u8; BLOCK], wrote: usize) -> Called
-    requires { ⌜ Valid b × (26 ≤ length (now s)) × (wrote ≤ 57344) ⌝ }
+fn apply(b: Book, s: &[u8], out: &mut [u8; BLOCK]) -> Called
+    requires { ⌜ Valid b × (26 ≤ length (now s)) ⌝ }
     ensures { λ r. ⌜ Valid (r .book) × (r .wrote ≤ 65536) ⌝ }
 {
     let f = fields_at(s, 0);
@@ -79,7 +79,7 @@ fn apply(b: Book, s: &[u8], out: &mut [u8; BLOCK], wrote: usize) -> Called
     numbers[0] = book::number(answer);
     numbers[1] = r.rounds;
     numbers[2] = book::held(left);
-    let next = put_line(out, wrote, b"apply ", &numbers, count);
+    let next = put_line(out, b"apply ", &numbers, count);
     Called {
         book: left,
         wrote: next,
@@ -87,8 +87,7 @@ fn apply(b: Book, s: &[u8], out: &mut [u8; BLOCK], wrote: usize) -> Called
 }
 
 // Puts the line of a read that found an entry.
-fn put_found(out: &mut [u8; BLOCK], wrote: usize, entry: Entry, next: usize) -> usize
-    requires { ⌜ wrote ≤ 57344 ⌝ }
+fn put_found(out: &mut [u8; BLOCK], entry: Entry, next: usize) -> usize
     ensures { λ r. ⌜ r ≤ 65536 ⌝ }
 {
     let e = layout_of(entry);
@@ -101,46 +100,44 @@ fn put_found(out: &mut [u8; BLOCK], wrote: usize, entry: Entry, next: usize) -> 
     numbers[5] = fields[2];
     numbers[6] = fields[3];
     numbers[7] = fields[4];
-    put_line(out, wrote, b"read ", &numbers, 3 + e.count)
+    put_line(out, b"read ", &numbers, 3 + e.count)
 }
 
 // Puts the line of a read that was refused.
-fn put_refused(out: &mut [u8; BLOCK], wrote: usize, answer: u64, place: usize) -> usize
-    requires { ⌜ wrote ≤ 57344 ⌝ }
+fn put_refused(out: &mut [u8; BLOCK], answer: u64, place: usize) -> usize
     ensures { λ r. ⌜ r ≤ 65536 ⌝ }
 {
     let mut numbers = [0u64; NUMBERS];
     numbers[0] = answer;
     numbers[1] = place as u64;
-    put_line(out, wrote, b"read ", &numbers, 2)
+    put_line(out, b"read ", &numbers, 2)
 }
 
 // Reads an entry.
-fn read(s: &[u8], count: usize, out: &mut [u8; BLOCK], wrote: usize) -> usize
-    requires { ⌜ (11 + count ≤ length (now s)) × (wrote ≤ 57344) ⌝ }
+fn read(s: &[u8], count: usize, out: &mut [u8; BLOCK]) -> usize
+    requires { ⌜ 11 + count ≤ length (now s) ⌝ }
     ensures { λ r. ⌜ r ≤ 65536 ⌝ }
 {
     let place = number_at(s, 1, 8) as usize;
     let end = READ_LENGTH + count;
     let reading = book::read_next(part(s, READ_LENGTH, end), place);
     match reading {
-        Reading::Found { entry, next } => put_found(out, wrote, entry, next),
-        Reading::Short => put_refused(out, wrote, 1, place),
-        Reading::Unknown => put_refused(out, wrote, 2, place),
-        Reading::Outside => put_refused(out, wrote, 3, place),
+        Reading::Found { entry, next } => put_found(out, entry, next),
+        Reading::Short => put_refused(out, 1, place),
+        Reading::Unknown => put_refused(out, 2, place),
+        Reading::Outside => put_refused(out, 3, place),
     }
 }
 
 // Puts the line of a write: the answer, how many bytes were written, and each lent byte as left.
 fn put_written(
     out: &mut [u8; BLOCK],
-    wrote: usize,
     answer: u64,
     written: usize,
     bytes: &[u8; ROOM],
     room: usize,
 ) -> usize
-    requires { ⌜ (wrote ≤ 57344) × (room ≤ 255) ⌝ }
+    requires { ⌜ room ≤ 255 ⌝ }
     ensures { λ r. ⌜ r ≤ 65536 ⌝ }
 {
     let mut numbers = [0u64; NUMBERS];
@@ -149,12 +146,12 @@ fn put_written(
     for i in 0..room {
         numbers[BEFORE_BYTES + i] = wide(bytes[i]);
     }
-    put_line(out, wrote, b"write ", &numbers, BEFORE_BYTES + room)
+    put_line(out, b"write ", &numbers, BEFORE_BYTES + room)
 }
 
 // Writes an entry.
-fn write(s: &[u8], out: &mut [u8; BLOCK], wrote: usize) -> usize
-    requires { ⌜ (26 ≤ length (now s)) × (wrote ≤ 57344) ⌝ }
+fn write(s: &[u8], out: &mut [u8; BLOCK]) -> usize
+    requires { ⌜ 26 ≤ length (now s) ⌝ }
     ensures { λ r. ⌜ r ≤ 65536 ⌝ }
 {
     let f = fields_at(s, 0);
@@ -162,41 +159,35 @@ fn write(s: &[u8], out: &mut [u8; BLOCK], wrote: usize) -> usize
     let mut bytes = [BYTE; ROOM];
     let writing = book::write_entry(entry_of(f), &mut bytes[0..room]);
     match writing {
-        Writing::Wrote(count) => put_written(out, wrote, 0, count, &bytes, room),
-        Writing::Outside => put_written(out, wrote, 3, 0, &bytes, room),
-        Writing::NoRoom => put_written(out, wrote, 5, 0, &bytes, room),
+        Writing::Wrote(count) => put_written(out, 0, count, &bytes, room),
+        Writing::Outside => put_written(out, 3, 0, &bytes, room),
+        Writing::NoRoom => put_written(out, 5, 0, &bytes, room),
     }
 }
 
 // Makes the call that stands at the start of s.
-pub fn call(b: Book, c: Call, s: &[u8], out: &mut [u8; BLOCK], wrote: usize) -> Called
-    requires { ⌜ Valid b × (callLength c ≤ length (now s)) × (wrote ≤ 57344) ⌝ }
+pub fn call(b: Book, c: Call, s: &[u8], out: &mut [u8; BLOCK]) -> Called
+    requires { ⌜ Valid b × (callLength c ≤ length (now s)) ⌝ }
     ensures { λ r. ⌜ Valid (r .book) × (r .wrote ≤ 65536) ⌝ }
 {
     match c {
-        Call::Make => make(s, out, wrote),
-        Call::Apply => apply(b, s, out, wrote),
+        Call::Make => make(s, out),
+        Call::Apply => apply(b, s, out),
         Call::Read(count) => {
-            let next = read(s, count as usize, out, wrote);
+            let next = read(s, count as usize, out);
             Called {
                 book: b,
                 wrote: next,
             }
         }
         Call::Write => {
-            let next = write(s, out, wrote);
+            let next = write(s, out);
             Called {
                 book: b,
                 wrote: next,
             }
         }
-        Call::More => Called {
-            book: b,
-            wrote: wrote,
-        },
-        Call::Stop => Called {
-            book: b,
-            wrote: wrote,
-        },
+        Call::More => Called { book: b, wrote: 0 },
+        Call::Stop => Called { book: b, wrote: 0 },
     }
 }

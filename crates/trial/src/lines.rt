@@ -18,18 +18,12 @@ fn after(passed: usize, count: usize) -> u8 {
 // The most numbers of a line: three, and the words lent to an entry.
 pub const NUMBERS: usize = 258;
 
-// Puts a name and the first numbers as a line.
-pub fn put_line(
-    out: &mut [u8],
-    place: usize,
-    name: &[u8],
-    numbers: &[u64; NUMBERS],
-    count: usize,
-) -> usize
-    requires { ⌜ (count ≤ 258) × (place + length (now name) + count * numberRoom ≤ length (now out)) ⌝ }
-    ensures { λ r. ⌜ r ≤ place + length (now (name .entry)) + count * numberRoom ⌝ }
+// Puts a name and the first numbers as a line; answers how many bytes it takes.
+pub fn put_line(out: &mut [u8], name: &[u8], numbers: &[u64; NUMBERS], count: usize) -> usize
+    requires { ⌜ (count ≤ 258) × (length (now name) + count * numberRoom ≤ length (now out)) ⌝ }
+    ensures { λ r. ⌜ r ≤ length (now (name .entry)) + count * numberRoom ⌝ }
 {
-    let mut next = put_bytes(out, place, name);
+    let mut next = put_bytes(out, 0, name);
     for i in 0..count {
         next = put_number(out, next, numbers[i], after(i + 1, count));
     }

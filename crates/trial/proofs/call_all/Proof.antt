@@ -1,19 +1,24 @@
 use mathlib.Core.Path.{ap}
 use native.Mathlib.Omega.{arith}
 use lib.ListN.{length, length-take}
-use Prim.Native.Nat.{_-_, _≤_}
+use Prim.Native.Nat.{_+_, _-_, _≤_}
 use Rattle.book.specs.rules.Valid.{Valid}
-use Rattle.text.proofs.BlockLaws.{waiting-le}
 use borrow.Author.Needs.{needs}
 use Rattle.trial.proofs.call_all.Statement.{statement}
 use Rattle.trial.proofs.call_all.Tie as tie
 
 abbrev Inv-loop : tie.InvT-loop
-Inv-loop input₀ out₀ b₀ filled₀ place₀ wrote₀ turns₀ input out b filled place wrote turns =
-    Valid b × (place ≤ filled) × (filled ≤ 131072) × (wrote ≤ 57344) × (turns ≤ 1000000000000000000)
+Inv-loop bytes₀ out₀ b₀ input₀ output₀ filled₀ place₀ turns₀ bytes out b input output filled place turns =
+    Valid b × (place ≤ filled) × (filled ≤ 131072) × (turns ≤ 18446744073709551615)
 
 abbrev μ-loop : tie.MeasureT-loop
-μ-loop input₀ out₀ b₀ filled₀ place₀ wrote₀ turns₀ input out b filled place wrote turns = 1000000000000000000 - turns
+μ-loop bytes₀ out₀ b₀ input₀ output₀ filled₀ place₀ turns₀ bytes out b input output filled place turns = 18446744073709551615 - turns
+
+unread-requires : tie.Need-unread-requires Inv-loop μ-loop
+unread-requires c κs = search needs
+
+unwritten-requires : tie.Need-unwritten-requires Inv-loop μ-loop
+unwritten-requires c κs = search needs
 
 loop-holds : tie.Need-loop-holds Inv-loop μ-loop
 loop-holds c = search needs
@@ -36,8 +41,8 @@ is-stop-requires c κs = search needs
 keep-requires : tie.Need-keep-requires Inv-loop μ-loop
 keep-requires c κs = search needs
 
-fill-requires : tie.Need-fill-requires Inv-loop μ-loop
-fill-requires c κs = search needs
+read-more-requires : tie.Need-read-more-requires Inv-loop μ-loop
+read-more-requires c κs = search needs
 
 loop-less : tie.Need-loop-less Inv-loop μ-loop
 loop-less c = search needs
@@ -51,33 +56,49 @@ part-requires-2 c κs = search needs
 call-requires : tie.Need-call-requires Inv-loop μ-loop
 call-requires c κs =
     let l = c .before .before .before .before .before .before .before .before .before .before .before .loop in
-    (l .inv .0, omega (arith, c .before .before .before .before .before .before .call-at .ensures, ap length (c .before .before .before .before .before .before .before .part .ensures), ap length (c .before .part2 .ensures)), l .inv .3)
+    (l .inv .0, omega (arith, c .before .before .before .before .before .before .call-at .ensures, ap length (c .before .before .before .before .before .before .before .part .ensures), ap length (c .before .part2 .ensures)))
 
-flush-requires : tie.Need-flush-requires Inv-loop μ-loop
-flush-requires c κs = search needs
+write-out-requires : tie.Need-write-out-requires Inv-loop μ-loop
+write-out-requires c κs = search needs
+
+is-written-requires : tie.Need-is-written-requires Inv-loop μ-loop
+is-written-requires c κs = search needs
+
+-- a call ends within what was read
+within : (c : tie.After-length-of Inv-loop μ-loop) → c .before .before .before .before .before .before .loop .place + c .length-of .result ≤ c .before .before .before .before .before .before .loop .filled
+within c =
+    let l = c .before .before .before .before .before .before .loop in
+    omega (arith, c .length-of .ensures, c .before .call-at .ensures, simp length-take at (ap length (c .before .before .part .ensures)), l .inv .1)
 
 add-place : tie.Need-add-place Inv-loop μ-loop
-add-place c = search needs
+add-place c = omega (arith, within (c .before .before .before .before .before .before .before .before .before .before .before .before), c .before .before .before .before .before .before .before .before .before .before .before .before .before .before .before .before .before .before .loop .inv .2)
 
 loop-less-2 : tie.Need-loop-less-2 Inv-loop μ-loop
 loop-less-2 c = search needs
 
 loop-again-2 : tie.Need-loop-again-2 Inv-loop μ-loop
 loop-again-2 c =
-    let l = c .before .before .before .before .before .before .before .before .before .before .before .before .before .before .before .before .loop in
-    let p = c .before .before .before .before .before .before .before .before .before .before .before .before .part in (
-      c .before .before .before .before .call .ensures .0,
-      omega (arith, c .before .before .before .before .before .before .before .before .before .before .length-of .ensures, c .before .before .before .before .before .before .before .before .before .before .before .call-at .ensures, simp length-take at (ap length (p .ensures)), l .inv .1),
+    let l = c .before .before .before .before .before .before .before .before .before .before .before .before .before .before .before .before .before .before .loop in (
+      c .before .before .before .before .before .before .call .ensures .0,
+      within (c .before .before .before .before .before .before .before .before .before .before .before .before),
       l .inv .2,
-      waiting-le (c .before .before .before .before .call .result .wrote) 57344 _ (c .flush .ensures),
-      omega (arith, c .before .before .before .before .before .before .before .before .before .before .before .before .before .before .before .loop-test .taken),
+      omega (arith, c .before .before .before .before .before .before .before .before .before .before .before .before .before .before .before .before .before .loop-test .taken),
     )
-
-flush-requires-2 : tie.Need-flush-requires-2 Inv-loop μ-loop
-flush-requires-2 c κs = search needs
 
 returns : tie.Need-returns Inv-loop μ-loop
 returns c = search needs
+
+returns-2 : tie.Need-returns-2 Inv-loop μ-loop
+returns-2 c = search needs
+
+returns-3 : tie.Need-returns-3 Inv-loop μ-loop
+returns-3 c = search needs
+
+returns-4 : tie.Need-returns-4 Inv-loop μ-loop
+returns-4 c = search needs
+
+returns-5 : tie.Need-returns-5 Inv-loop μ-loop
+returns-5 c = search needs
 
 pub call-all-spec : {M : Type 1} → statement M
 call-all-spec =
@@ -85,6 +106,8 @@ call-all-spec =
     (tie.spec
     Inv-loop
     μ-loop
+    unread-requires
+    unwritten-requires
     loop-holds
     add-turns
     part-requires
@@ -92,14 +115,18 @@ call-all-spec =
     length-of-requires
     is-stop-requires
     keep-requires
-    fill-requires
+    read-more-requires
     loop-less
     loop-again
     part-requires-2
     call-requires
-    flush-requires
+    write-out-requires
+    is-written-requires
     add-place
     loop-less-2
     loop-again-2
-    flush-requires-2
-    returns)
+    returns
+    returns-2
+    returns-3
+    returns-4
+    returns-5)

@@ -6,13 +6,13 @@ enum-told : tie.Need-enum-told
 enum-told c = search needs
 
 make-requires : tie.Need-make-requires
-make-requires c κs = (rw (c .before .enum-told .given .1) at (c .before .before .before .before .pre .1), c .before .before .before .before .pre .2)
+make-requires c κs = rw (c .before .enum-told .given .1) at (c .before .before .before .before .pre .1)
 
 enum-told-2 : tie.Need-enum-told-2
 enum-told-2 c = search needs
 
 apply-requires : tie.Need-apply-requires
-apply-requires c κs = (c .before .before .before .before .pre .0, rw (c .before .enum-told2 .given .1) at (c .before .before .before .before .pre .1), c .before .before .before .before .pre .2)
+apply-requires c κs = (c .before .before .before .before .pre .0, rw (c .before .enum-told2 .given .1) at (c .before .before .before .before .pre .1))
 
 enum-known-c : tie.Need-enum-known-c
 enum-known-c c = search needs
@@ -21,13 +21,13 @@ cast-read : tie.Need-cast-read
 cast-read c = search needs
 
 read-requires : tie.Need-read-requires
-read-requires c κs = (rw (c .before .before .c .given .1) at (c .before .before .before .before .before .pre .1), c .before .before .before .before .before .pre .2)
+read-requires c κs = rw (c .before .before .c .given .1) at (c .before .before .before .before .before .pre .1)
 
 enum-told-3 : tie.Need-enum-told-3
 enum-told-3 c = search needs
 
 write-requires : tie.Need-write-requires
-write-requires c κs = (rw (c .before .enum-told3 .given .1) at (c .before .before .before .before .pre .1), c .before .before .before .before .pre .2)
+write-requires c κs = rw (c .before .enum-told3 .given .1) at (c .before .before .before .before .pre .1)
 
 enum-told-4 : tie.Need-enum-told-4
 enum-told-4 c = search needs

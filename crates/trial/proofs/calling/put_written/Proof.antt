@@ -4,11 +4,11 @@ use Rattle.trial.proofs.calling.put_written.Statement.{statement}
 use Rattle.trial.proofs.calling.put_written.Tie as tie
 
 abbrev Inv-loop : tie.InvT-loop
-Inv-loop out wrote answer written bytes room numbers₀ i₀ t9 numbers i =
+Inv-loop out answer written bytes room numbers₀ i₀ t9 numbers i =
     i ≤ room
 
 abbrev μ-loop : tie.MeasureT-loop
-μ-loop out wrote answer written bytes room numbers₀ i₀ t9 numbers i = room - i
+μ-loop out answer written bytes room numbers₀ i₀ t9 numbers i = room - i
 
 array-write-numbers : tie.Need-array-write-numbers Inv-loop μ-loop
 array-write-numbers c = search needs

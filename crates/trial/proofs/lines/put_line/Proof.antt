@@ -7,11 +7,11 @@ use Rattle.trial.proofs.lines.put_line.Statement.{statement}
 use Rattle.trial.proofs.lines.put_line.Tie as tie
 
 abbrev Inv-loop : tie.InvT-loop
-Inv-loop out₀ place name numbers count next₀ i₀ out next i =
-    (i ≤ count) × (length out ≡ length out₀) × (next ≤ place + length name + i * numberRoom)
+Inv-loop out₀ name numbers count next₀ i₀ out next i =
+    (i ≤ count) × (length out ≡ length out₀) × (next ≤ length name + i * numberRoom)
 
 abbrev μ-loop : tie.MeasureT-loop
-μ-loop out₀ place name numbers count next₀ i₀ out next i = count - i
+μ-loop out₀ name numbers count next₀ i₀ out next i = count - i
 
 put-bytes-requires : tie.Need-put-bytes-requires Inv-loop μ-loop
 put-bytes-requires c κs = search needs
