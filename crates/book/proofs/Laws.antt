@@ -13,8 +13,6 @@ pub use Rattle.book.proofs.runs.BlockRuns.{block-runs}
 pub use Rattle.book.proofs.layouts.ReadLaws.{onward, reading-front, reading-before, read-within, reading-empty, none-answer, reading-none, short-few}
 -- the payout words that an entry is lent
 pub use Rattle.book.proofs.rules.WordLaws.{Alike, alike, alike-paid, paid-accepted, paid-refused}
--- what a run leaves of its room
-pub use Rattle.book.proofs.runs.RunValid.{Within, run-within}
 -- a run, entry by entry
 pub use Rattle.book.proofs.runs.RunLaws.{read-or-none, run-full, run-unread, run-read, Ends}
 pub use Rattle.book.proofs.runs.RunReplies.{reply-n}

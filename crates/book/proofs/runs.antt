@@ -1,5 +1,4 @@
 pub mod RunLaws
-pub mod RunValid
 pub mod RunTurns
 pub mod PostingSteps
 pub mod PostingTurns
