@@ -1,6 +1,7 @@
 //! Compares two programs with the reckoning on feeds and trials from fixed seeds.
 
 use crate::feeds::{self, KINDS};
+use crate::handover::handover;
 use crate::judge::{judge_listing, judge_trial};
 use crate::pairs;
 use crate::program;
@@ -154,5 +155,6 @@ pub fn compare(listing: &str, trial: &str) -> bool {
     compare_trials(&mut totals, trial);
     let covered = totals.differences > 0 || totals.covered();
     totals.print();
-    covered && totals.differences == 0
+    let handed_over = handover(listing);
+    covered && totals.differences == 0 && handed_over
 }

@@ -9,6 +9,7 @@ pub mod compare;
 pub mod damage;
 pub mod demand3;
 pub mod feeds;
+pub mod handover;
 pub mod judge;
 pub mod lines;
 pub mod listing;

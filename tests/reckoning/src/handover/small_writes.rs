@@ -1,0 +1,54 @@
+//! A feed in very many small writes, each of which the program must read by itself.
+
+use super::inputs::run_on_packets;
+use super::{entry_ends, start_of_long, Run, Runs};
+use crate::demand3::Count;
+use crate::judge::judge_listing;
+use crate::random::Random;
+use crate::refusals::ACCEPTED;
+
+/// A feed of n = 64, so that a settlement prints many payouts.
+const SEED: u64 = 1;
+const MOST_BYTES: usize = 250_000;
+/// A write has 1 to so many bytes.
+const MOST_WRITTEN: u64 = 4;
+/// The least that must be covered; the writes are more than 16 bits can count.
+const LEAST_WRITES: u64 = 1 << 16;
+const LEAST_ENTRIES: usize = 5_000;
+
+/// The ends of writes of random sizes.
+fn write_ends(length: usize) -> Vec<usize> {
+    let mut random = Random::new(SEED);
+    let mut ends = Vec::new();
+    let mut at = 0;
+    while at < length {
+        at = length.min(at + random.between(1, MOST_WRITTEN) as usize);
+        ends.push(at);
+    }
+    ends
+}
+
+/// Whether a feed had refused entries, settlements and late money.
+fn various(count: &Count) -> bool {
+    let refused: u64 = count.answers[usize::from(ACCEPTED) + 1..].iter().sum();
+    refused > 0 && count.settled_months > 0 && count.late_receipts > 0
+}
+
+/// Holds a program to the reckoning over a feed in small writes.
+pub fn small_writes(run: &impl Run) -> bool {
+    let feed = start_of_long(SEED, MOST_BYTES);
+    let (entries, ends) = (entry_ends(&feed).len() - 1, write_ends(feed.len()));
+    let mut runs = Runs::new("small writes");
+    let judged = run_on_packets(run, &feed, &ends).and_then(|(printed, written)| {
+        let found = printed.without_errors()?;
+        Ok((judge_listing(&feed, &found)?, written))
+    });
+    let name = format!("feed long seed {SEED}, {} bytes", feed.len());
+    let (count, written) = runs.take(&name, judged).unwrap_or_default();
+    let enough = written >= LEAST_WRITES && entries >= LEAST_ENTRIES && various(&count);
+    let (months, late) = (count.settled_months, count.late_receipts);
+    let covered = format!(
+        "{written} writes, {entries} entries, {months} settled months, {late} late receipts"
+    );
+    runs.stands(&covered, enough)
+}
