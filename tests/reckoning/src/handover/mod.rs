@@ -1,5 +1,6 @@
-//! Ways to hand a feed to a listing: in small pieces.
+//! Ways to hand a feed to a listing: in small pieces, and cut about the ends of its blocks.
 
+mod block_ends;
 mod inputs;
 mod small_writes;
 
@@ -8,6 +9,8 @@ use crate::feeds;
 use crate::program::{self, Printed};
 use std::os::fd::OwnedFd;
 
+/// The bytes that the listing reads at once.
+const BLOCK: usize = 1 << 16;
 /// Differences printed in full; the others are only counted.
 const SHOWN: u64 = 10;
 
@@ -74,5 +77,7 @@ fn start_of_long(seed: u64, most: usize) -> Vec<u8> {
 /// agrees.
 pub fn handover(listing: &str) -> bool {
     let run = |input, output| program::run_on(listing, input, output);
-    small_writes::small_writes(&run)
+    let small_writes = small_writes::small_writes(&run);
+    let block_ends = block_ends::block_ends(&block_ends::Cuts::every(), &run);
+    small_writes && block_ends
 }
