@@ -1,6 +1,8 @@
-//! Ways to hand a feed to a listing: in small pieces, and cut about the ends of its blocks.
+//! Ways to hand a feed to a listing: in small pieces, cut about the ends of its blocks, and
+//! through an input or an output that fails.
 
 mod block_ends;
+mod failures;
 mod inputs;
 mod small_writes;
 
@@ -79,5 +81,6 @@ pub fn handover(listing: &str) -> bool {
     let run = |input, output| program::run_on(listing, input, output);
     let small_writes = small_writes::small_writes(&run);
     let block_ends = block_ends::block_ends(&block_ends::Cuts::every(), &run);
-    small_writes && block_ends
+    let failures = failures::failures(&run);
+    small_writes && block_ends && failures
 }
