@@ -60,7 +60,7 @@ impl<R: Read> Feed<R> {
 }
 
 /// Prints an entry's line and a line for each non-zero payout.
-fn print_entry(
+pub(crate) fn print_entry(
     out: &mut impl Write,
     number: u64,
     answer: u8,

@@ -5,6 +5,10 @@ mod block_ends;
 mod failures;
 mod inputs;
 mod small_writes;
+#[cfg(test)]
+mod stand_in;
+#[cfg(test)]
+mod tests;
 
 use crate::codec;
 use crate::feeds;
