@@ -15,8 +15,8 @@ use Rattle.book.specs.rules.State.{centsHeld}
 use Rattle.book.proofs.Laws.{reading-before, reading-empty}
 use Rattle.lister.specs.Lines.{entryLine}
 use Rattle.lister.specs.Listing.{endLine, listingFrom}
-use Rattle.lister.specs.Pieces.{Stand, fed, rest, Lists}
-use Rattle.lister.specs.inner.Blocks.{waiting, outRoom, standIn, Goes, RunsListed, BlockListed}
+use Rattle.lister.specs.Pieces.{Stand, fed, rest}
+use Rattle.lister.specs.inner.Blocks.{waiting, outRoom, standIn, Ends, Goes, RunsListed, BlockListed}
 use Rattle.lister.specs.declared.blocks.Standing.{Standing}
 use Rattle.lister.specs.declared.blocks.Next.{Next}
 use Rattle.lister.specs.declared.blocks.Next.the-variants.{Read, Done}
@@ -39,25 +39,25 @@ end-some number held (x ∷ s) h = refl
 -- the line of bytes that cannot be read, and are not just short, is the same whatever follows them
 end-before : (number held : ℕ) (s more : List ℕ) → (reading s 0 .answer ≡ 1 → ⊥) → endLine number held (s ++ more) ≡ endLine number held s
 unfolding endLine
-end-before number held [] more long = absurd (long reading-empty)
-end-before number held (x ∷ s) more long = ap (λ (r : ReadOutcome). entryLine number (r .answer) 0 held) (reading-before (x ∷ s) more long)
+end-before number held [] more not-short = absurd (not-short reading-empty)
+end-before number held (x ∷ s) more not-short = ap (λ (r : ReadOutcome). entryLine number (r .answer) 0 held) (reading-before (x ∷ s) more not-short)
 
--- a listing that stands before bytes that cannot be read ends there, if nothing follows or they are not just short
-module _ {a z : Stand} {l : List ℕ} (f : Lists a l z) (none : reading (z .left) 0 .entry ≡ []) where
-  abbrev whole : List ℕ
-  whole = l ++ endLine (z .number) (centsHeld (z .book)) (z .left)
-
-  ends-here : rest a ≡ whole
+-- a listing that ends before the bytes left is whole, at the end of the input or whatever follows
+module _ {ended : Bool} {a z : Stand} {put : List ℕ} (e : Ends ended a put z) where
+  pub ends-here : rest a ≡ put
   ends-here =
-      ap (listingFrom (a .number) (a .book)) (sym (append-nil (a .left))) ∙ f .whole []
-      ∙ ap (λ (s : List ℕ). l ++ listingFrom (z .number) (z .book) s) (append-nil (z .left)) ∙ ap (λ (x : List ℕ). l ++ x) (listing-unread (z .number) (z .book) (z .left) none)
+      ap (listingFrom (a .number) (a .book)) (sym (append-nil (a .left))) ∙ e .lists .whole []
+      ∙ ap (λ (s : List ℕ). e .before ++ listingFrom (z .number) (z .book) s) (append-nil (z .left))
+      ∙ ap (λ (x : List ℕ). e .before ++ x) (listing-unread (z .number) (z .book) (z .left) (e .none)) ∙ sym (e .whole)
 
-  ends-always : (reading (z .left) 0 .answer ≡ 1 → ⊥) → (more : List ℕ) → rest (fed a more) ≡ whole
-  ends-always long more =
-      f .whole more
-      ∙ ap (λ (x : List ℕ). l ++ x)
-      (listing-unread (z .number) (z .book) (z .left ++ more) (ap (λ (r : ReadOutcome). r .entry) (reading-before (z .left) more long) ∙ none)
-      ∙ end-before (z .number) (centsHeld (z .book)) (z .left) more long)
+  pub ends-always : ended ≡ false → (more : List ℕ) → rest (fed a more) ≡ put
+  ends-always q more =
+      let not-short = e .for-good q in
+      e .lists .whole more
+      ∙ ap (λ (x : List ℕ). e .before ++ x)
+      (listing-unread (z .number) (z .book) (z .left ++ more) (ap (λ (r : ReadOutcome). r .entry) (reading-before (z .left) more not-short) ∙ e .none)
+      ∙ end-before (z .number) (centsHeld (z .book)) (z .left) more not-short)
+      ∙ sym (e .whole)
 
 module _ {feed : List ℕ} {a : Standing} {out : List ℕ} {z : Standing} {after words : List ℕ} (r : RunsListed feed a out z after words) (ended : Bool) where
   -- output waits
@@ -65,12 +65,12 @@ module _ {feed : List ℕ} {a : Standing} {out : List ℕ} {z : Standing} {after
   block-again h = record {
     put = r .put;
     wrote = r .wrote;
-    goes = subst (λ (n : Next). Goes ended n (standIn feed a) (r .put) (standIn feed z)) (sym (r .again))
-        (r .lists, omega (arith, length-drop (a .place) feed, length-drop (z .place) feed, r .some h, r .wrote .ready .within));
+    goes = subst (λ (n : Next). Goes ended n (z .wrote) (standIn feed a) (r .put) (standIn feed z)) (sym (r .again))
+        (r .lists, omega (arith, length-drop (a .place) feed, length-drop (z .place) feed, r .some h, r .wrote .ready .within), h);
   }
 
   module _ (h : z .wrote ≤ waiting) where
-    -- a part of an entry is left, and more is to come
+    -- the bytes left are short, and more are to come
     pub block-read : cond ended false (eqb (reading (drop (z .place) feed) 0 .answer) 1) ≡ true
         → BlockListed feed a ended out (record { book = z .book; number = z .number; place = z .place; wrote = z .wrote; next = Read }) after words
     block-read q = record {
@@ -83,7 +83,7 @@ module _ {feed : List ℕ} {a : Standing} {out : List ℕ} {z : Standing} {after
       goes = awaited ended q;
     }
       where
-        awaited : (t : Bool) → cond t false (eqb (reading (drop (z .place) feed) 0 .answer) 1) ≡ true → Goes t Read (standIn feed a) (r .put) (standIn feed z)
+        awaited : (t : Bool) → cond t false (eqb (reading (drop (z .place) feed) 0 .answer) 1) ≡ true → Goes t Read (z .wrote) (standIn feed a) (r .put) (standIn feed z)
         awaited true q = absurd (false≢true q)
         awaited false q = (r .lists, omega (arith, length-drop (a .place) feed, length-drop (z .place) feed, r .onward), eqb-true _ _ q)
 
@@ -98,10 +98,5 @@ module _ {feed : List ℕ} {a : Standing} {out : List ℕ} {z : Standing} {after
         room = room;
         ready = record { valid = r .wrote .ready .valid; within = r .wrote .ready .within; agree = r .wrote .ready .agree };
       };
-      goes = ends ended q;
+      goes = record { before = r .put; lists = r .lists; none = r .stopped h; whole = refl; for-good = λ e. eqb-false _ _ (rw e at q) };
     }
-      where
-        ends : (t : Bool) → cond t false (eqb (reading (drop (z .place) feed) 0 .answer) 1) ≡ false
-            → Goes t Done (standIn feed a) (r .put ++ endLine (z .number) (centsHeld (z .book)) (drop (z .place) feed)) (standIn feed z)
-        ends true q = ends-here (r .lists) (r .stopped h)
-        ends false q = ends-always (r .lists) (r .stopped h) (eqb-false _ _ q)

@@ -3,7 +3,7 @@ use mathlib.Core.Path.{refl}
 use Rattle.book.specs.rules.Periods.{zeros, fresh, raised, sideTotal, holds, leaves, amounted, withNotice, withReceipt, withSettlement, latePays, withLateReceipt, changed}
 use Rattle.book.specs.rules.State.{pack, heldIn, made, find, arrearsBefore, earlierArrears, replaced, removed, added}
 use Rattle.book.specs.rules.Refusals.{receivable}
-use Rattle.book.specs.rules.Step.{stored, payoutWords, accepted, step, reply}
+use Rattle.book.specs.rules.Step.{stored, payoutWords, accepted, step, reply, paidBy}
 use Rattle.exact.specs.Rows.{sum, largest, table, filled, cells}
 use Rattle.exact.specs.Division.{ceilDiv}
 use Rattle.exact.specs.Energy.{energyCents}
@@ -17,7 +17,6 @@ use Rattle.settlement.specs.Late.{fill, shortage, latePayment}
 use Rattle.book.specs.layouts.Fields.{valueAt, fieldsAt}
 use Rattle.book.specs.layouts.Entries.{entryOf}
 use Rattle.book.specs.layouts.Reading.{reading, entryAt}
-use Rattle.book.specs.runs.Running.{paidBy}
 use Rattle.text.specs.Numbers.{digitsOf, decimal}
 use Rattle.lister.specs.Lines.{entryLine, payLine, payLines}
 use Rattle.lister.specs.Listing.{entryLines, endLine, entriesFrom, listingFrom, listing}

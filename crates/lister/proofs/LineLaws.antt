@@ -37,10 +37,10 @@ module _ (a p h : ℕ) (lines : List ℕ) where
   last-more (suc c) z = rw (ne-eqb (suc (suc c)) 0 (λ e. absurd (omega arith)), ne-eqb (suc c) 0 (λ e. absurd (omega arith))) (behind ((suc c - 1) * 3 + 1) ((suc (suc c) - 1) * 3 + 1) (omega arith))
 
   -- a line that paid nothing, and the run after it
-  pub run-quiet : (first count : ℕ) (words : List ℕ) → p ≡ 0
+  pub run-unpaid : (first count : ℕ) (words : List ℕ) → p ≡ 0
       → runLines first (a ∷ p ∷ h ∷ lines) (suc count) words ≡ entryLine first a p h ++ runLines (first + 1) lines count words
   unfolding runLines
-  run-quiet first count words z =
+  run-unpaid first count words z =
       rw (lines-more first count, last-more count z) (append-assoc (entryLine first a p h) (linesTo (first + 1) lines count) _)
 
 -- a line that paid, the last of its run

@@ -11,9 +11,8 @@ use Rattle.exact.proofs.RowLaws.{sum-term, zero-at}
 use Rattle.exact.proofs.Cases.{eq-or-ne}
 use Rattle.book.specs.layouts.Reading.{reading}
 use Rattle.book.specs.rules.State.{centsHeld}
-use Rattle.book.specs.rules.Step.{Reply, reply}
+use Rattle.book.specs.rules.Step.{Reply, reply, paidBy}
 use Rattle.book.specs.rules.Words.{AgreeFrom}
-use Rattle.book.specs.runs.Running.{paidBy}
 use Rattle.book.specs.declared.entries.Entry.{Entry}
 use Rattle.book.specs.declared.Book.{Book}
 use Rattle.book.proofs.Laws.{read-within, read-or-none, Alike, alike-paid, paid-accepted, paid-refused}
@@ -126,9 +125,9 @@ module _ {b : Book} {e : Entry} {words : List ℕ} (many : b .n ≤ places) (a :
       (eq-or-ne (y .answer) 0)
 
   -- it pays nothing: its line alone
-  pub entry-quiet : (number : ℕ) → paidBy (b .n) x ≡ 0 → entryLines number (b .n) y ≡ entryLine number (x .answer) (paidBy (b .n) x) (centsHeld (x .book)) ++ []
+  pub entry-unpaid : (number : ℕ) → paidBy (b .n) x ≡ 0 → entryLines number (b .n) y ≡ entryLine number (x .answer) (paidBy (b .n) x) (centsHeld (x .book)) ++ []
   unfolding entryLines
-  entry-quiet number z = λ i. line-same number i ++ pays-none (y .words) (b .n) (nothing-paid z) i
+  entry-unpaid number z = λ i. line-same number i ++ pays-none (y .words) (b .n) (nothing-paid z) i
 
   -- it pays: the lines of all words lent are those of its payouts
   pub entry-paid : (number : ℕ) → (paidBy (b .n) x ≡ 0 → ⊥)

@@ -9,10 +9,10 @@ use lib.Seq.{drop-drop, drop-append-le}
 use Rattle.exact.proofs.Cases.{cases-eq}
 use Rattle.book.specs.layouts.Reading.{ReadOutcome, reading}
 use Rattle.book.specs.rules.State.{centsHeld}
-use Rattle.book.specs.rules.Step.{Reply, reply}
+use Rattle.book.specs.rules.Step.{Reply, reply, paidBy}
 use Rattle.book.specs.rules.Valid.{Valid}
 use Rattle.book.specs.rules.Words.{AgreeFrom}
-use Rattle.book.specs.runs.Running.{Run, paidBy, lineOf, stopped, lined, run}
+use Rattle.book.specs.runs.Running.{Run, lineOf, stopped, lined, run}
 use Rattle.book.specs.declared.entries.Entry.{Entry}
 use Rattle.book.specs.declared.Book.{Book}
 use Rattle.book.proofs.Laws.{reading-front, reading-before, none-answer, read-within, read-or-none, run-full, run-unread, run-read, stays-valid, Alike, alike, reply-n}
@@ -20,8 +20,8 @@ use Rattle.lister.specs.Lines.{entryLine}
 use Rattle.lister.specs.Listing.{lent, entryLines, listingFrom}
 use Rattle.lister.specs.Pieces.{Lists}
 use Rattle.lister.specs.inner.Runs.{runLines}
-use Rattle.lister.proofs.LineLaws.{run-quiet, run-paid, run-none}
-use Rattle.lister.proofs.ListingLaws.{listing-read, entry-quiet, entry-paid}
+use Rattle.lister.proofs.LineLaws.{run-unpaid, run-paid, run-none}
+use Rattle.lister.proofs.ListingLaws.{listing-read, entry-unpaid, entry-paid}
 
 -- what a run r of the bytes from a place on has put of the listing from there on
 pub record RunLists (bytes : List ℕ) (room number : ℕ) (b : Book) (place : ℕ) (r : Run) : Type 0 where
@@ -92,29 +92,29 @@ module _ (bytes : List ℕ) where
     front-next = sym (ap (λ (r : ReadOutcome). r .place) (reading-front bytes place))
 
     -- and is read there whatever follows
-    long : reading (drop place bytes) 0 .answer ≡ 1 → ⊥
-    long h = absurd (omega (arith, ap length (sym front-read ∙ none-answer (drop place bytes) 0 (λ z. absurd (omega (arith, h, z))))))
+    not-short : reading (drop place bytes) 0 .answer ≡ 1 → ⊥
+    not-short h = absurd (omega (arith, ap length (sym front-read ∙ none-answer (drop place bytes) 0 (λ z. absurd (omega (arith, h, z))))))
 
     left : (more : List ℕ) → drop (reading (drop place bytes ++ more) 0 .place) (drop place bytes ++ more) ≡ drop next bytes ++ more
     left more =
         let k : ℕ = reading (drop place bytes) 0 .place in
-        ap (λ (r : ReadOutcome). drop (r .place) (drop place bytes ++ more)) (reading-before (drop place bytes) more long)
+        ap (λ (r : ReadOutcome). drop (r .place) (drop place bytes ++ more)) (reading-before (drop place bytes) more not-short)
         ∙ drop-append-le k (drop place bytes) more (omega (arith, length-drop place bytes, front-next, further .1))
         ∙ ap (λ (l : List ℕ). l ++ more) (drop-drop k place bytes ∙ ap (λ (j : ℕ). drop j bytes) front-next)
 
     -- the listing from the entry on
     entry-first : (more : List ℕ) → listingFrom number b (drop place bytes ++ more) ≡ entryLines number (b .n) y ++ listingFrom (number + 1) (x .book) (drop next bytes ++ more)
     entry-first more =
-        listing-read number b (drop place bytes ++ more) e (ap (λ (r : ReadOutcome). r .entry) (reading-before (drop place bytes) more long) ∙ front-read)
+        listing-read number b (drop place bytes ++ more) e (ap (λ (r : ReadOutcome). r .entry) (reading-before (drop place bytes) more not-short) ∙ front-read)
         ∙ ap₂ (λ (k : Book) (l : List ℕ). entryLines number (b .n) y ++ listingFrom (number + 1) k l) (sym (same .book)) (left more)
 
     abbrev printed : List ℕ
     printed = entryLine number (x .answer) (paidBy (b .n) x) (centsHeld (x .book))
 
     -- it pays nothing, and the run goes on
-    quiet-lists : (room : ℕ) (r : Run) → paidBy (b .n) x ≡ 0 → RunLists bytes room (number + 1) (x .book) next r
+    unpaid-lists : (room : ℕ) (r : Run) → paidBy (b .n) x ≡ 0 → RunLists bytes room (number + 1) (x .book) next r
         → RunLists bytes (suc (suc (suc room))) number b place (lined (lineOf (b .n) x) r)
-    quiet-lists room r z w = record {
+    unpaid-lists room r z w = record {
       count = suc (w .count);
       three = omega (arith, w .three);
       few = omega (arith, w .few);
@@ -129,11 +129,11 @@ module _ (bytes : List ℕ) where
             let k : number + 1 + w .count ≡ number + suc (w .count) = omega arith in
             let u : List ℕ = drop (r .place) bytes ++ more in
             entry-first more
-            ∙ ap (λ (l : List ℕ). l ++ listingFrom (number + 1) (x .book) (drop next bytes ++ more)) (entry-quiet (v .fit .many) same number z ∙ append-nil printed)
+            ∙ ap (λ (l : List ℕ). l ++ listingFrom (number + 1) (x .book) (drop next bytes ++ more)) (entry-unpaid (v .fit .many) same number z ∙ append-nil printed)
             ∙ ap (λ (l : List ℕ). printed ++ l) (w .lists .whole more)
             ∙ sym (append-assoc printed (runLines (number + 1) (r .lines) (w .count) (r .words)) (listingFrom (number + 1 + w .count) (r .book) u))
             ∙ ap₂ (λ (l : List ℕ) (j : ℕ). l ++ listingFrom j (r .book) u)
-            (sym (run-quiet (x .answer) (paidBy (b .n) x) (centsHeld (x .book)) (r .lines) number (w .count) (r .words) z)) k;
+            (sym (run-unpaid (x .answer) (paidBy (b .n) x) (centsHeld (x .book)) (r .lines) number (w .count) (r .words) z)) k;
       };
     }
 
@@ -178,7 +178,7 @@ module _ (bytes : List ℕ) where
       let q = found .1 in
       subst (RunLists bytes (suc (suc (suc room))) number b place) (sym (run-read bytes room b place words e q))
       (cases-eq (λ (z : Run). RunLists bytes (suc (suc (suc room))) number b place (lined (lineOf (b .n) r) z)) (paidBy (b .n) r) 0
-      (λ z. quiet-lists number b place words e v a q room (run bytes room (r .book) k (r .words)) z
+      (λ z. unpaid-lists number b place words e v a q room (run bytes room (r .book) k (r .words)) z
       (run-lists room (number + 1) (r .book) k (r .words) (x-valid number b place words e v a q) (x-agree number b place words e v a q)))
       (λ h. paid-lists number b place words e v a q room h)))
       (read-or-none bytes place)

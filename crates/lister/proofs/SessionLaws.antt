@@ -1,33 +1,35 @@
 -- The loop over blocks: what was read and written so far, and where the listing stands.
-use Prim.Native.Nat.{ℕ, _+_, _-_, _*_, _%_, _^_, _≤_}
+use Prim.Native.Nat.{ℕ, _+_, _-_, _*_, _≤_, min}
 use mathlib.Core.Path.{_≡_, refl, sym, ap, ap₂, subst, _∙_}
 use mathlib.Core.Bool.{Bool, true, false, cond, true≢false}
+use mathlib.Core.Logic.{inr}
 use mathlib.Core.List.{List, [], _∷_, _++_, append-nil}
 use native.Mathlib.Omega.{arith}
 use lib.ListN.{length, getD, take, drop, length-append, length-drop}
 use lib.Seq.{drop-cons, getD-take, length-take-le}
 use Rattle.text.specs.Blocks.{kept}
-use Rattle.text.specs.Streams.{isEnded, isFailed, Left, Fetches}
+use Rattle.text.specs.Streams.{most, isEnded, isFailed, Came, Fetches}
 use Rattle.text.specs.declared.streams.Last.{Last}
 use Rattle.text.specs.declared.streams.Last.the-variants.{More, Ended, Failed}
 use Rattle.text.specs.declared.streams.Input as input
 use Rattle.text.specs.declared.streams.Output as output
 use Rattle.text.specs.declared.streams.Fetched.{Fetched}
 use Rattle.text.proofs.BlockLaws.{kept-front}
-use Rattle.text.proofs.StreamLaws.{fetched-front}
+use Rattle.text.proofs.StreamLaws.{more-of, failed-of, fetched-front}
 use Rattle.book.specs.rules.Valid.{Valid}
 use Rattle.book.specs.declared.Book.{Book}
 use Rattle.book.proofs.Laws.{stays-valid, short-few}
 use Rattle.lister.specs.Lines.{header}
 use Rattle.lister.specs.Listing.{listing}
-use Rattle.lister.specs.Pieces.{fed, rest, Stands}
-use Rattle.lister.specs.Sessions.{Put, Told, Session}
+use Rattle.lister.specs.Pieces.{rest, Stands}
+use Rattle.lister.specs.Sessions.{Listed, Told, Session}
 use Rattle.lister.specs.inner.Blocks.{standIn, Ready, Goes, BlockListed, whyEnded, Begun}
 use Rattle.lister.specs.declared.blocks.Standing.{Standing}
 use Rattle.lister.specs.declared.blocks.Next.{Next}
 use Rattle.lister.specs.declared.blocks.Next.the-variants.{Again, Read, Done}
 use Rattle.lister.specs.declared.ends.End.{End}
 use Rattle.lister.specs.declared.ends.End.the-variants.{Unread, Input, Turns, NotRead, NotWritten}
+use Rattle.lister.proofs.BlockTurns.{ends-here, ends-always}
 use Rattle.lister.proofs.BeginLaws.{told-as}
 use Rattle.lister.proofs.PieceLaws.{stands-first, stands-fed, stands-listed, stands-now, stands-ended, stands-closed}
 
@@ -36,8 +38,8 @@ use Rattle.lister.proofs.PieceLaws.{stands-first, stands-fed, stands-li
 pub record Looping (feed words : List ℕ) (s : Standing) (i : input.Input) (filled : ℕ) (o : output.Output) (turns : ℕ) : Type 0 where
   pub seen : List ℕ
   pub put : List ℕ
-  pub seen-counted : i .total ≡ length seen % 2 ^ 64
-  pub put-counted : o .total ≡ length put % 2 ^ 64
+  pub seen-counted : i .total ≡ min (length seen) most
+  pub put-counted : o .total ≡ min (length put) most
   pub stands : Stands seen put (standIn (take filled feed) s)
   pub ready : Ready (take filled feed) s words
   pub there : filled ≤ length feed
@@ -54,7 +56,7 @@ pub loop-begins : {first : Book} {read : Fetched} {o : output.Output} {feed word
 loop-begins {first} {read} {o} {feed} {words} z q g = subst (λ (x : Standing). Looping feed words x (read .input) (read .filled) o 0) (sym q) (record {
   seen = s;
   put = header;
-  seen-counted = g .read-counted ∙ ap (λ (k : ℕ). k % 2 ^ 64) (sym size);
+  seen-counted = g .read-counted ∙ ap (λ (k : ℕ). min k most) (sym size);
   put-counted = g .header-counted;
   stands = subst (λ (l : List ℕ). Stands l header (record { number = 1; book = first; left = drop 1 s })) (sym split)
       (subst (λ (b : Book). Stands (getD feed 0 0 ∷ drop 1 s) header (record { number = 1; book = b; left = drop 1 s })) (sym (g .book))
@@ -81,13 +83,13 @@ loop-begins {first} {read} {o} {feed} {words} z q g = subst (λ (x : Standing). 
 
 -- the turns are used up
 pub loop-turns : {feed words : List ℕ} {s : Standing} {i : input.Input} {filled : ℕ} {o : output.Output} {turns : ℕ} → Looping feed words s i filled o turns
-    → turns ≡ 2 ^ 64 - 1 → Session (record { why = Turns; turns = turns; input = i; output = o })
+    → turns ≡ most → Session (record { why = Turns; turns = turns; input = i; output = o })
 loop-turns {feed} {words} {s} {i} {filled} {o} {turns} g e = record {
   seen = g .seen;
   put = g .put;
   seen-counted = g .seen-counted;
   put-counted = g .put-counted;
-  listed = λ more. (rest (fed (standIn (take filled feed) s) more), g .stands .whole more);
+  listed = (standIn (take filled feed) s, g .stands);
   told = (e, g .written);
   few-turns = few-end (isEnded (i .last)) (g .few);
 }
@@ -110,11 +112,11 @@ pub record Turned (feed words : List ℕ) (z : Standing) (i : input.Input) (fill
   pub after : List ℕ
   pub going : Looping feed lent-words start i filled before turns
   pub block : BlockListed (take filled feed) start (isEnded (i .last)) out z after words
-  pub handed : w .total ≡ (before .total + z .wrote) % 2 ^ 64
+  pub handed : w .total ≡ min (before .total + z .wrote) most
 
 pub turned : {feed words words′ out after part : List ℕ} {a z : Standing} {i : input.Input} {filled turns : ℕ} {o : output.Output} (w : output.Output)
     → Looping feed words a i filled o turns → part ≡ take (filled - 0) (drop 0 feed) → BlockListed part a (isEnded (i .last)) out z after words′
-    → w .total ≡ (o .total + z .wrote) % 2 ^ 64 → Turned feed words′ z i filled turns w
+    → w .total ≡ min (o .total + z .wrote) most → Turned feed words′ z i filled turns w
 turned {feed} {words} {words′} {out} {after} {part} {a} {z} {i} {filled} {turns} {o} w g p b c = record {
   start = a;
   lent-words = words;
@@ -142,7 +144,7 @@ module _ {feed words′ : List ℕ} {z : Standing} {i : input.Input} {filled tur
   abbrev put : List ℕ
   put = g .put ++ block .put
 
-  counted : w .total ≡ length put % 2 ^ 64
+  counted : w .total ≡ min (length put) most
   counted = omega (arith, x .handed, g .put-counted, block .wrote .puts .next, length-append (g .put) (block .put))
 
   few-end : (t : Bool) → turns + length (drop (a .place) bytes) ≤ 2 * length (g .seen) + cond t 1 0 → turns + 1 ≤ 2 * length (g .seen) + 2
@@ -150,7 +152,7 @@ module _ {feed words′ : List ℕ} {z : Standing} {i : input.Input} {filled tur
   few-end false h = omega (arith, h)
 
   -- the listing ends here
-  ended : (why : End) → Put why (g .seen) put → Told why i w (turns + 1) → Session (record { why = why; turns = turns + 1; input = i; output = w })
+  ended : (why : End) → Listed why (g .seen) put → Told why i w (turns + 1) → Session (record { why = why; turns = turns + 1; input = i; output = w })
   ended why l t = record {
     seen = g .seen;
     put = put;
@@ -161,28 +163,27 @@ module _ {feed words′ : List ℕ} {z : Standing} {i : input.Input} {filled tur
     few-turns = few-end (isEnded (i .last)) (g .few);
   }
 
-  goes-as : (next : Next) → z .next ≡ next → (t : Bool) → isEnded (i .last) ≡ t → Goes t next (standIn bytes a) (block .put) (standIn bytes z)
-  goes-as next d t q = subst (λ (x : Bool). Goes x next (standIn bytes a) (block .put) (standIn bytes z)) q
-      (subst (λ (n : Next). Goes (isEnded (i .last)) n (standIn bytes a) (block .put) (standIn bytes z)) d (block .goes))
+  goes-as : (next : Next) → z .next ≡ next → (t : Bool) → isEnded (i .last) ≡ t → Goes t next (z .wrote) (standIn bytes a) (block .put) (standIn bytes z)
+  goes-as next d t q = subst (λ (x : Bool). Goes x next (z .wrote) (standIn bytes a) (block .put) (standIn bytes z)) q
+      (subst (λ (n : Next). Goes (isEnded (i .last)) n (z .wrote) (standIn bytes a) (block .put) (standIn bytes z)) d (block .goes))
 
-  -- where not all was written, what was put is a part of the listing of the bytes read
+  -- where not all was written, what was put is the front of the listing of the bytes read
   pub turn-not-written : w .all ≡ false → Session (record { why = NotWritten; turns = turns + 1; input = i; output = w })
-  turn-not-written e = ended NotWritten (part-of (isEnded (i .last)) (z .next) (block .goes)) e
+  turn-not-written e = ended NotWritten (front (isEnded (i .last)) (z .next) (block .goes)) e
     where
-      part-of : (t : Bool) (next : Next) → Goes t next (standIn bytes a) (block .put) (standIn bytes z) → (l : List ℕ) × (listing (g .seen) ≡ put ++ l)
-      part-of t Again h = (rest (standIn bytes z), stands-now (stands-listed (g .stands) (h .0)))
-      part-of false Read h = (rest (standIn bytes z), stands-now (stands-listed (g .stands) (h .0)))
-      part-of true Read h = absurd h
-      part-of false Done h = ([], ap listing (sym (append-nil (g .seen))) ∙ stands-closed (g .stands) h [] ∙ sym (append-nil put))
-      part-of true Done h = ([], stands-ended (g .stands) h ∙ sym (append-nil put))
+      front : (t : Bool) (next : Next) → Goes t next (z .wrote) (standIn bytes a) (block .put) (standIn bytes z) → (l : List ℕ) × (listing (g .seen) ≡ put ++ l)
+      front t Again h = (rest (standIn bytes z), stands-now (stands-listed (g .stands) (h .0)))
+      front false Read h = (rest (standIn bytes z), stands-now (stands-listed (g .stands) (h .0)))
+      front true Read h = absurd h
+      front t Done h = ([], stands-ended (g .stands) (ends-here h) ∙ sym (append-nil put))
 
   -- the listing is whole
   pub turn-done : z .next ≡ Done → w .all ≡ true → Session (record { why = whyEnded (i .last); turns = turns + 1; input = i; output = w })
   turn-done d e = by-last (i .last) refl
     where
       by-last : (l : Last) → i .last ≡ l → Session (record { why = whyEnded (i .last); turns = turns + 1; input = i; output = w })
-      by-last More q = told-as i w (turns + 1) Unread (ap whyEnded q) (ended Unread (stands-closed (g .stands) (goes-as Done d false (ap isEnded q))) e)
-      by-last Ended q = told-as i w (turns + 1) Input (ap whyEnded q) (ended Input (stands-ended (g .stands) (goes-as Done d true (ap isEnded q))) (ap isEnded q, e))
+      by-last More q = told-as i w (turns + 1) Unread (ap whyEnded q) (ended Unread (stands-closed (g .stands) (ends-always (goes-as Done d false (ap isEnded q)) refl)) (q, e))
+      by-last Ended q = told-as i w (turns + 1) Input (ap whyEnded q) (ended Input (stands-ended (g .stands) (ends-here (goes-as Done d true (ap isEnded q)))) (q, e))
       by-last Failed q = absurd (true≢false (sym (ap isFailed q) ∙ g .not-failed))
 
   -- there is more to list in the block
@@ -202,17 +203,21 @@ module _ {feed words′ : List ℕ} {z : Standing} {i : input.Input} {filled tur
         few = omega (arith, g .few, h .1);
       }
 
-  -- the bytes left are a part of an entry: they are kept in front, and a read follows
+  -- the bytes left are short: they are kept in front, and a read follows
   module _ (d : z .next ≡ Read) (e : w .all ≡ true) where
-    short : (isEnded (i .last) ≡ false) × Goes false Read (standIn bytes a) (block .put) (standIn bytes z)
+    short : (isEnded (i .last) ≡ false) × Goes false Read (z .wrote) (standIn bytes a) (block .put) (standIn bytes z)
     short = by-end (isEnded (i .last)) refl
       where
-        by-end : (t : Bool) → isEnded (i .last) ≡ t → (isEnded (i .last) ≡ false) × Goes false Read (standIn bytes a) (block .put) (standIn bytes z)
+        by-end : (t : Bool) → isEnded (i .last) ≡ t → (isEnded (i .last) ≡ false) × Goes false Read (z .wrote) (standIn bytes a) (block .put) (standIn bytes z)
         by-end true q = absurd (goes-as Read d true q)
         by-end false q = (q, goes-as Read d false q)
 
     size : length bytes ≡ filled
     size = length-take-le filled feed (g .there)
+
+    -- so the read before it brought bytes
+    pub left-more : i .last ≡ More
+    left-more = more-of (i .last) (short .0) (g .not-failed)
 
     -- there is room behind them
     pub left-few : filled - z .place ≤ 255
@@ -237,23 +242,26 @@ module _ {feed words′ : List ℕ} {z : Standing} {i : input.Input} {filled tur
       stands = subst (λ (l : List ℕ). Stands (g .seen ++ piece) put (record { number = z .number; book = z .book; left = l })) (sym whole)
           (stands-fed (stands-listed (g .stands) (short .1 .0)) piece)
 
-      counted-in : r .input .total ≡ length (g .seen ++ piece) % 2 ^ 64
+      counted-in : r .input .total ≡ min (length (g .seen ++ piece)) most
       counted-in = omega (arith, f .counted, g .seen-counted, piece-size, length-append (g .seen) piece)
 
       few-before : turns + length (drop (a .place) bytes) ≤ 2 * length (g .seen)
       few-before = let h = subst (λ (t : Bool). turns + length (drop (a .place) bytes) ≤ 2 * length (g .seen) + cond t 1 0) (short .0) (g .few) in omega (arith, h)
 
-      -- the read failed
+      -- the read failed, and brought nothing
       pub turn-not-read : isFailed (r .input .last) ≡ true → Session (record { why = NotRead; turns = turns + 1; input = r .input; output = w })
-      turn-not-read h = record {
-        seen = g .seen ++ piece;
-        put = put;
-        seen-counted = counted-in;
-        put-counted = counted;
-        listed = λ more. (rest (fed (standIn (take (r .filled) feed″) now) more), stands .whole more);
-        told = (h, e);
-        few-turns = omega (arith, few-before, length-append (g .seen) piece);
-      }
+      turn-not-read h =
+          let q = failed-of (r .input .last) h in
+          let none : r .filled - filled′ ≡ 0 = subst (λ (l : Last). Came l (r .filled - filled′)) q (f .came) in
+          record {
+            seen = g .seen;
+            put = put;
+            seen-counted = omega (arith, f .counted, g .seen-counted, none);
+            put-counted = counted;
+            listed = inr (standIn bytes z, stands-listed (g .stands) (short .1 .0), short .1 .2);
+            told = (q, e);
+            few-turns = omega (arith, few-before);
+          }
 
       -- there are more bytes, or the input has ended
       pub turn-read : isFailed (r .input .last) ≡ false → Looping feed″ words′ now (r .input) (r .filled) w (turns + 1)
@@ -267,10 +275,10 @@ module _ {feed words′ : List ℕ} {z : Standing} {i : input.Input} {filled tur
         there = f .within;
         written = e;
         not-failed = h;
-        few = few-now (r .input .last) h (f .left);
+        few = few-now (r .input .last) h (f .came);
       }
         where
-          few-now : (l : Last) → isFailed l ≡ false → Left l filled′ (r .filled) → turns + 1 + length (take (r .filled) feed″) ≤ 2 * length (g .seen ++ piece) + cond (isEnded l) 1 0
+          few-now : (l : Last) → isFailed l ≡ false → Came l (r .filled - filled′) → turns + 1 + length (take (r .filled) feed″) ≤ 2 * length (g .seen ++ piece) + cond (isEnded l) 1 0
           few-now More q m = omega (arith, m, few-before, short .1 .1, piece-size, ap length whole, length-append (drop (z .place) bytes) piece, length-append (g .seen) piece)
           few-now Ended q m = omega (arith, m, few-before, short .1 .1, piece-size, ap length whole, length-append (drop (z .place) bytes) piece, length-append (g .seen) piece)
           few-now Failed q m = absurd (true≢false q)

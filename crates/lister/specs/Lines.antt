@@ -6,12 +6,12 @@ use lib.Dec.{eqb}
 use lib.ListN.{getD}
 use Rattle.text.specs.Numbers.{decimal}
 
--- a number and a space, or a line end
-abbrev pub spaced : ℕ → List ℕ
-spaced n = decimal n ++ 32 ∷ []
+-- a number, and a space or a line end after it
+abbrev pub withSpace : ℕ → List ℕ
+withSpace n = decimal n ++ 32 ∷ []
 
-abbrev pub ended : ℕ → List ℕ
-ended n = decimal n ++ 10 ∷ []
+abbrev pub withNewline : ℕ → List ℕ
+withNewline n = decimal n ++ 10 ∷ []
 
 -- 'entry answer paid held'
 abbrev pub header : List ℕ
@@ -21,11 +21,11 @@ header =
 
 -- entry number, modulo 2 ^ 64, answer, cents paid by it, cents held
 unfoldable pub entryLine : ℕ → ℕ → ℕ → ℕ → List ℕ
-entryLine number answer paid held = spaced (number % 2 ^ 64) ++ spaced answer ++ spaced paid ++ ended held
+entryLine number answer paid held = withSpace (number % 2 ^ 64) ++ withSpace answer ++ withSpace paid ++ withNewline held
 
 -- 'pay', participant and cents, where there are any
 unfoldable pub payLine : ℕ → ℕ → List ℕ
-payLine participant cents = cond (eqb cents 0) [] ((112 ∷ 97 ∷ 121 ∷ 32 ∷ []) ++ spaced participant ++ ended cents)
+payLine participant cents = cond (eqb cents 0) [] ((112 ∷ 97 ∷ 121 ∷ 32 ∷ []) ++ withSpace participant ++ withNewline cents)
 
 -- those of the participants below n
 unfoldable pub payLines : List ℕ → ℕ → List ℕ

@@ -3,10 +3,9 @@ use Prim.Native.Nat.{ℕ, zero, suc, _+_}
 use mathlib.Core.List.{List, [], _∷_, _++_}
 use lib.ListN.{length, drop, replicate}
 use Rattle.exact.specs.Rows.{places}
-use Rattle.book.specs.layouts.Reading.{reading}
+use Rattle.book.specs.layouts.Reading.{reading, onEntry}
 use Rattle.book.specs.rules.State.{pack, made, centsHeld}
-use Rattle.book.specs.rules.Step.{Reply, reply}
-use Rattle.book.specs.runs.Running.{paidBy, onEntry}
+use Rattle.book.specs.rules.Step.{Reply, reply, paidBy}
 use Rattle.book.specs.declared.Book.{Book}
 use Rattle.lister.specs.Lines.{header, entryLine, payLines}
 

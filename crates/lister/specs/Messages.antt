@@ -1,4 +1,5 @@
--- What is told on standard error of a listing that ended before its input did. 01 has no line for it on standard output.
+-- What is told on standard error where standard input or output failed, or the turns are used up. 01 has no line for it on
+-- standard output.
 use Prim.Native.Nat.{ℕ}
 use mathlib.Core.List.{List, [], _∷_}
 use Rattle.lister.specs.declared.ends.End.{End}

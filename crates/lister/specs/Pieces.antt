@@ -44,9 +44,9 @@ abbrev pub pieces : List Turn → List ℕ
 pieces [] = []
 pieces (t ∷ ts) = t .piece ++ pieces ts
 
-abbrev pub puts : List Turn → List ℕ
-puts [] = []
-puts (t ∷ ts) = t .put ++ puts ts
+abbrev pub allPut : List Turn → List ℕ
+allPut [] = []
+allPut (t ∷ ts) = t .put ++ allPut ts
 
 -- where a listing begins that was handed n
 abbrev pub begun : ℕ → Stand
@@ -54,11 +54,13 @@ begun n = record { number = 1; book = bookFor n; left = [] }
 
 -- any input, n and what follows it, cut into pieces in any way: what the turns put is its listing, up to where they stand; ..
 pub record Joined (n : ℕ) (ts : List Turn) (z : Stand) : Type 0 where
-  pub so-far : Stands (n ∷ pieces ts) (header ++ puts ts) z
+  pub so-far : Stands (n ∷ pieces ts) (header ++ allPut ts) z
   -- .. with what is put at the end of the input it is the whole listing; and with what is put whatever follows, that of every
   -- input that begins so
-  pub at-the-end : (put : List ℕ) → rest z ≡ put → listing (n ∷ pieces ts) ≡ (header ++ puts ts) ++ put
-  pub before-all : (put : List ℕ) → ((more : List ℕ) → rest (fed z more) ≡ put) → (more : List ℕ) → listing ((n ∷ pieces ts) ++ more) ≡ (header ++ puts ts) ++ put
+  pub at-the-end : (put : List ℕ) → rest z ≡ put → listing (n ∷ pieces ts) ≡ (header ++ allPut ts) ++ put
+  pub before-all : (put : List ℕ) → ((more : List ℕ) → rest (fed z more) ≡ put) → (more : List ℕ) → listing ((n ∷ pieces ts) ++ more) ≡ (header ++ allPut ts) ++ put
 
-abbrev pub JoinedPieces : Type 0
-JoinedPieces = (n : ℕ) (ts : List Turn) (z : Stand) → Follow (begun n) ts z → Joined n ts z
+-- an input of no byte has the header alone
+pub record JoinedPieces : Type 0 where
+  pub empty : listing [] ≡ header
+  pub joined : (n : ℕ) (ts : List Turn) (z : Stand) → Follow (begun n) ts z → Joined n ts z

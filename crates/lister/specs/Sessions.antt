@@ -1,47 +1,48 @@
 -- A listing of standard input, from its first byte to its end.
-use Prim.Native.Nat.{ℕ, _+_, _-_, _*_, _%_, _^_, _≤_}
+use Prim.Native.Nat.{ℕ, _+_, _*_, _≤_, min}
 use mathlib.Core.Path.{_≡_}
 use mathlib.Core.Bool.{true, false}
-use mathlib.Core.List.{List, _++_}
+use mathlib.Core.Logic.{_⊎_}
+use mathlib.Core.List.{List, [], _++_}
 use lib.ListN.{length}
-use Rattle.text.specs.Streams.{isEnded, isFailed}
+use Rattle.text.specs.Streams.{most}
+use Rattle.text.specs.declared.streams.Last.the-variants.{More, Ended, Failed}
 use Rattle.text.specs.declared.streams.Input as input
 use Rattle.text.specs.declared.streams.Output as output
+use Rattle.book.specs.layouts.Reading.{reading}
+use Rattle.lister.specs.Lines.{header}
 use Rattle.lister.specs.Listing.{listing}
+use Rattle.lister.specs.Pieces.{Stand, Stands}
 use Rattle.lister.specs.declared.ends.End.{End}
 use Rattle.lister.specs.declared.ends.End.the-variants.{Unread, Input, Turns, NotRead, NotWritten}
 use Rattle.lister.specs.declared.ends.Ending.{Ending}
 
--- the listing of every input that begins with the bytes seen begins with the bytes put
-abbrev pub Front : List ℕ → List ℕ → Type 0
-Front seen put = (more : List ℕ) → (rest : List ℕ) × (listing (seen ++ more) ≡ put ++ rest)
-
--- what was put when a listing ended, by why it ended: at bytes that cannot be read the listing of every input that begins so; at
--- the end of the input its listing; with its turns used up or where a read failed the listing so far; where a write failed a
--- part of it
-abbrev pub Put : End → List ℕ → List ℕ → Type 0
-Put Unread seen put = (more : List ℕ) → listing (seen ++ more) ≡ put
-Put Input seen put = listing seen ≡ put
-Put Turns seen put = Front seen put
-Put NotRead seen put = Front seen put
-Put NotWritten seen put = (rest : List ℕ) × (listing seen ≡ put ++ rest)
+-- what was put when a listing ended, by why it ended: at bytes that cannot be read the listing of every input that begins so;
+-- at the end of the input its listing; where a read failed the header, or all entries that are there whole; with its turns
+-- used up some of them; where a write failed what was handed over is the front of the listing
+abbrev pub Listed : End → List ℕ → List ℕ → Type 0
+Listed Unread seen put = (more : List ℕ) → listing (seen ++ more) ≡ put
+Listed Input seen put = listing seen ≡ put
+Listed NotRead seen put = ((seen ≡ []) × (put ≡ header)) ⊎ ((z : Stand) × Stands seen put z × (reading (z .left) 0 .answer ≡ 1))
+Listed Turns seen put = (z : Stand) × Stands seen put z
+Listed NotWritten seen put = (rest : List ℕ) × (listing seen ≡ put ++ rest)
 
 -- what the streams and the turns say of it: only a read tells the end of the input or that it failed, and only a write that not
 -- all was written
 abbrev pub Told : End → input.Input → output.Output → ℕ → Type 0
-Told Unread i o turns = o .all ≡ true
-Told Input i o turns = (isEnded (i .last) ≡ true) × (o .all ≡ true)
-Told Turns i o turns = (turns ≡ 2 ^ 64 - 1) × (o .all ≡ true)
-Told NotRead i o turns = (isFailed (i .last) ≡ true) × (o .all ≡ true)
+Told Unread i o turns = (i .last ≡ More) × (o .all ≡ true)
+Told Input i o turns = (i .last ≡ Ended) × (o .all ≡ true)
+Told NotRead i o turns = (i .last ≡ Failed) × (o .all ≡ true)
+Told Turns i o turns = (turns ≡ most) × (o .all ≡ true)
 Told NotWritten i o turns = o .all ≡ false
 
 -- a listing: the bytes that were read, and the bytes that were handed over for writing, each as many as its stream has counted
 pub record Session (r : Ending) : Type 0 where
   pub seen : List ℕ
   pub put : List ℕ
-  pub seen-counted : r .input .total ≡ length seen % 2 ^ 64
-  pub put-counted : r .output .total ≡ length put % 2 ^ 64
-  pub listed : Put (r .why) seen put
+  pub seen-counted : r .input .total ≡ min (length seen) most
+  pub put-counted : r .output .total ≡ min (length put) most
+  pub listed : Listed (r .why) seen put
   pub told : Told (r .why) (r .input) (r .output) (r .turns)
-  -- no turn is taken for nothing, so they are used up only by an input of 2 ^ 63 bytes
+  -- no turn is taken for nothing, so they are used up only where 2 ^ 63 - 1 bytes were read
   pub few-turns : r .turns ≤ 2 * length seen + 2

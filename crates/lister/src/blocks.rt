@@ -21,7 +21,8 @@ pub const OUT: usize = 262144;
 
 pub type Out = [u8; OUT];
 
-// The most bytes of output that wait: there is room behind them for the lines of 512 entries and of 64 payouts.
+// More bytes of output than this wait to be written out: there is room behind them for the lines of 512 entries and of 64
+// payouts.
 pub const WAITING: usize = 212992;
 
 // What is to be done once the output is written: list on in the block, read more of the input, or nothing.
@@ -88,8 +89,8 @@ fn is_awaited(answer: u64, ended: bool) -> bool
     answer == 1
 }
 
-// Lists a block from a place on: until output waits, the bytes left are a part of an entry and more are to come, or the
-// listing is whole.
+// Lists a block from a place on: until output waits, the bytes left are short and more are to come, or the listing is whole.
+// Of the payout words those from n on are as they were first lent; the lines are free.
 pub fn list_block(
     start: Standing,
     feed: &[u8],

@@ -43,7 +43,7 @@ pub fn ended_by(why: End, turns: u64, input: Input, output: Output) -> Ending
     }
 }
 
-// Why a listing ended that was written whole, by what the last read left.
+// Why a listing ended, by what the last read left.
 pub fn why_ended(i: Input) -> End
     ensures { λ r. ⌜ r ≡ whyEnded (i .last) ⌝ }
 {
@@ -75,13 +75,13 @@ fn put_message(out: &mut Message, why: End) -> usize
 }
 
 fn write_message(out: &mut Message, why: End) -> Output
-    ensures { λ r. ⌜ r .total ≡ length (message why) ⌝ }
+    ensures { λ r. ⌜ Puts (now (out .entry)) 0 (message why) (now (out .exit)) (r .total) ⌝ }
 {
     let count = put_message(out, why);
     write_error(unwritten(), out, count)
 }
 
-// Tells on standard error where a listing ended before its input did.
+// Tells on standard error that standard input or output failed, or that the turns are used up.
 pub fn tell(e: Ending) -> Output
     ensures { λ r. ⌜ r .total ≡ length (message (e .why)) ⌝ }
 {

@@ -36,7 +36,7 @@ const BLOCK: usize = 65536;
 
 type Block = [u8; BLOCK];
 
-// The most turns: as many as there are numbers of 64 bits but one.
+// The most turns: the largest number of 64 bits.
 const TURNS: u64 = 0xffff_ffff_ffff_ffff;
 
 fn size(n: u8) -> usize
@@ -45,8 +45,8 @@ fn size(n: u8) -> usize
     n as usize
 }
 
-// Lists block after block. Each turn lists, writes out what was listed and, where the bytes left are a part of an entry,
-// moves them to the front and reads behind them.
+// Lists block after block. Each turn lists, writes out what was listed and, where the bytes left are short, moves them to the
+// front and reads behind them.
 fn list_blocks(
     first: Book,
     read: Fetched,

@@ -1,4 +1,4 @@
-// Lists a feed from standard input, and tells on standard error where the listing ended before its input did.
+// Lists a feed from standard input, and tells on standard error where that failed.
 fn main() {
     lister::tell(lister::list());
 }

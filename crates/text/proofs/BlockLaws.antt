@@ -36,7 +36,7 @@ module _ (b : List ℕ) (from i : ℕ) where
       (set-at (take i s) (getD b i 0) (drop (suc i) b) (getD s i 0) i front ∙ sym (append-snoc (take i s) (getD s i 0) (drop (suc i) b)))
 
 -- the bytes from one place up to another, in two ways
-pub part-front : (b : List ℕ) (from to : ℕ) → to ≤ length b → from ≤ to → take (to - from) (drop from b) ≡ drop from (take to b)
+part-front : (b : List ℕ) (from to : ℕ) → to ≤ length b → from ≤ to → take (to - from) (drop from b) ≡ drop from (take to b)
 part-front b from to h k =
     let e : from + (to - from) ≡ to = omega arith in
     let m : length (take from b) ≡ from = length-take-le from b (omega arith) in

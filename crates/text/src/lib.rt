@@ -7,7 +7,6 @@ mod streams;
 pub use blocks::keep;
 pub use blocks::part;
 pub use numbers::put_number;
-pub use puts::put_byte;
 pub use puts::put_bytes;
 pub use streams::Fetched;
 pub use streams::Input;

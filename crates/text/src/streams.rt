@@ -1,14 +1,18 @@
 // Standard input, standard output and standard error. The fields of a stream are private: no program counts bytes that
-// these functions did not read or hand over, or says of an input that it has ended which they did not see end.
-ghost use Prim.Native.Nat.{_+_, _%_, _^_, _≤_, _<_};
+// these functions did not read or hand over, or says of an input that it has ended which they did not see end. Nothing is
+// read behind the end of an input or a failed read, and nothing written behind a failed write.
+ghost use Prim.Native.Nat.{_+_, _^_, _≤_, _<_, min};
 ghost use mathlib.Core.Path.{_≡_};
 ghost use mathlib.Core.Bool.{true};
 ghost use lib.ListN.{length};
-ghost use Rattle.text.specs.Streams.{isEnded, isFailed, lastOf, Fetches};
+ghost use Rattle.text.specs.Streams.{most, isEnded, isFailed, lastOf, Fetches};
 ghost use Rattle.text.specs.declared.streams.Last.the-variants.{More};
 use libc::STDERR_FILENO;
 use libc::STDIN_FILENO;
 use libc::STDOUT_FILENO;
+
+// The largest number of 64 bits.
+const MOST: u64 = 0xffff_ffff_ffff_ffff;
 
 // What the last read left: more bytes than before, the end of the input, or nothing, since it failed.
 pub enum Last {
@@ -17,13 +21,13 @@ pub enum Last {
     Failed,
 }
 
-// An input: how many bytes were read of it, modulo 2^64, and what the last read left.
+// An input: how many bytes were read of it, or the largest number of 64 bits where that is less, and what the last read left.
 pub struct Input {
     total: u64,
     last: Last,
 }
 
-// An output: how many bytes were handed over for writing, modulo 2^64, and whether all of the last were written.
+// An output: how many bytes were handed over for writing, counted alike, and whether all of them were written.
 pub struct Output {
     total: u64,
     all: bool,
@@ -73,7 +77,7 @@ pub fn has_failed(i: Input) -> bool
     }
 }
 
-// Whether all bytes that were last handed over were written.
+// Whether all bytes that were handed over were written.
 pub fn is_written(o: Output) -> bool
     ensures { λ r. ⌜ r ≡ o .all ⌝ }
 {
@@ -86,11 +90,22 @@ pub struct Fetched {
     pub filled: usize,
 }
 
-// What a read left of which C answered `got`, by how many bytes there were and are.
-fn last_of(got: isize, filled: usize, count: usize) -> Last
-    ensures { λ r. ⌜ r ≡ lastOf got filled count ⌝ }
+// A count with more added; it stays at the largest number of 64 bits.
+fn counted(total: u64, more: usize) -> u64
+    ensures { λ r. ⌜ r ≡ min (total + more) most ⌝ }
 {
-    if count != filled {
+    let n = more as u64;
+    if MOST - total < n {
+        return MOST;
+    }
+    total + n
+}
+
+// What a read left of which C answered `got`, by how many bytes there were and how many came.
+fn last_of(got: isize, more: usize) -> Last
+    ensures { λ r. ⌜ r ≡ lastOf got more ⌝ }
+{
+    if more != 0 {
         return Last::More;
     }
     if got < 0 {
@@ -99,49 +114,56 @@ fn last_of(got: isize, filled: usize, count: usize) -> Last
     Last::Ended
 }
 
+// The input after a read of which C answered `got`, and that brought so many bytes behind the first `filled`.
+fn taken(i: Input, got: isize, filled: usize, more: usize) -> Fetched
+    requires { ⌜ filled + more < 2 ^ 64 ⌝ }
+    ensures { λ r. ⌜ r ≡ record { input = record { total = min (i .total + more) most; last = lastOf got more }; filled = filled + more } ⌝ }
+{
+    Fetched {
+        input: Input {
+            total: counted(i.total, more),
+            last: last_of(got, more),
+        },
+        filled: filled + more,
+    }
+}
+
 // Reads once from standard input, behind the first `filled` bytes. There is room behind them, so that a read of no byte is
 // the end of the input.
 pub fn read_more(i: Input, block: &mut [u8], filled: usize) -> Fetched
-    requires { ⌜ filled < length (now block) ⌝ }
+    requires { ⌜ (i .last ≡ More) × (filled < length (now block)) ⌝ }
     ensures { λ r. ⌜ Fetches (i .total) (now (block .entry)) filled (now (block .exit)) r ⌝ }
 {
     let rest = &mut block[filled..];
     let got = libc::read(STDIN_FILENO, rest);
     let more = io::count(got, rest);
-    let count = filled + more;
-    Fetched {
-        input: Input {
-            total: std::num::wrapping_add_u64(i.total, more as u64),
-            last: last_of(got, filled, count),
-        },
-        filled: count,
-    }
+    taken(i, got, filled, more)
 }
 
 // Writes the first `count` bytes to a file.
 fn write(fd: i32, o: Output, block: &[u8], count: usize) -> Output
-    requires { ⌜ count ≤ length (now block) ⌝ }
-    ensures { λ r. ⌜ r .total ≡ (o .total + count) % 2 ^ 64 ⌝ }
+    requires { ⌜ (o .all ≡ true) × (count ≤ length (now block)) ⌝ }
+    ensures { λ r. ⌜ r .total ≡ min (o .total + count) most ⌝ }
 {
     let all = io::write_all(fd, &block[0..count]);
     Output {
-        total: std::num::wrapping_add_u64(o.total, count as u64),
+        total: counted(o.total, count),
         all,
     }
 }
 
 // Writes the first `count` bytes to standard output.
 pub fn write_out(o: Output, block: &[u8], count: usize) -> Output
-    requires { ⌜ count ≤ length (now block) ⌝ }
-    ensures { λ r. ⌜ r .total ≡ (o .total + count) % 2 ^ 64 ⌝ }
+    requires { ⌜ (o .all ≡ true) × (count ≤ length (now block)) ⌝ }
+    ensures { λ r. ⌜ r .total ≡ min (o .total + count) most ⌝ }
 {
     write(STDOUT_FILENO, o, block, count)
 }
 
 // Writes the first `count` bytes to standard error.
 pub fn write_error(o: Output, block: &[u8], count: usize) -> Output
-    requires { ⌜ count ≤ length (now block) ⌝ }
-    ensures { λ r. ⌜ r .total ≡ (o .total + count) % 2 ^ 64 ⌝ }
+    requires { ⌜ (o .all ≡ true) × (count ≤ length (now block)) ⌝ }
+    ensures { λ r. ⌜ r .total ≡ min (o .total + count) most ⌝ }
 {
     write(STDERR_FILENO, o, block, count)
 }

@@ -87,16 +87,10 @@ reading-answer s place = cases-eq (λ (r : ReadOutcome). r .answer ≡ refusal (
 pub reading-empty : reading [] 0 .answer ≡ 1
 reading-empty = reading-answer [] 0
 
--- an entry is read just where the answer is 0
+-- no entry is read where the answer is not 0
 pub none-answer : (s : List ℕ) (place : ℕ) → (reading s place .answer ≡ 0 → ⊥) → reading s place .entry ≡ []
 unfolding reading
 none-answer s place = cases-eq (λ (r : ReadOutcome). (r .answer ≡ 0 → ⊥) → r .entry ≡ []) (refusal (readChecks s place)) 0 (λ _ h. absurd (h refl)) (λ _ _. refl)
-
-pub reading-none : (s : List ℕ) (place : ℕ) → reading s place .entry ≡ [] → reading s place .answer ≡ 0 → ⊥
-unfolding reading
-reading-none s place = cases-eq
-    (λ (r : ReadOutcome). r .entry ≡ [] → r .answer ≡ 0 → ⊥) (refusal (readChecks s place)) 0
-    (λ _ h. absurd (omega (arith, ap length h))) (λ h _. h)
 
 -- an entry takes a byte at least, and stands in the bytes whole
 pub read-within : (s : List ℕ) (place : ℕ) (e : Entry) → reading s place .entry ≡ e ∷ [] → (place < reading s place .place) × (reading s place .place ≤ length s)

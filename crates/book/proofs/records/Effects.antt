@@ -17,10 +17,9 @@ use Rattle.book.specs.rules.Kinds.{receiptCents}
 use Rattle.book.specs.rules.Periods.{leaves, changed}
 use Rattle.book.specs.rules.State.{view, pack, centsHeld, heldIn, noPeriod, removed}
 use Rattle.book.specs.rules.Refusals.{periodChecks, barring}
-use Rattle.book.specs.rules.Step.{payoutWords, Reply, reply}
+use Rattle.book.specs.rules.Step.{payoutWords, Reply, reply, paidBy}
 use Rattle.book.specs.rules.Valid.{Sound}
 use Rattle.book.specs.inner.OnePeriod.{Effect, effect, Affects}
-use Rattle.book.specs.runs.Running.{paidBy}
 use Rattle.book.specs.declared.entries.Entry.{Entry}
 use Rattle.book.specs.declared.Period.{Period}
 use Rattle.book.specs.declared.Book.{Book}

@@ -16,9 +16,8 @@ use Rattle.book.specs.rules.Kinds.{periodOf, isOpen}
 use Rattle.book.specs.rules.Periods.{Change, zeros, changed}
 use Rattle.book.specs.rules.State.{State, view, pack, find, periodAt}
 use Rattle.book.specs.rules.Refusals.{Input, kindChecks, checks}
-use Rattle.book.specs.rules.Step.{Outcome, Reply, payoutWords, opened, moved, accepted, refused, step, reply}
+use Rattle.book.specs.rules.Step.{Outcome, Reply, payoutWords, opened, moved, accepted, refused, step, reply, paidBy}
 use Rattle.book.specs.rules.Words.{AgreeFrom}
-use Rattle.book.specs.runs.Running.{paidBy}
 use Rattle.book.specs.declared.entries.Entry.{Entry}
 use Rattle.book.specs.declared.Book.{Book}
 use Rattle.book.proofs.rules.StepLaws.{enters, step-answer, step-accepted, step-refused}

@@ -12,10 +12,10 @@ use lib.Seq.{sets, length-sets}
 use Rattle.exact.proofs.Cases.{cases-eq}
 use Rattle.book.specs.Checks.{refusal}
 use Rattle.book.specs.layouts.Allowed.{allowed}
-use Rattle.book.specs.layouts.Reading.{ReadOutcome, entryAt, readChecks, reading}
-use Rattle.book.specs.rules.Step.{Reply, reply}
+use Rattle.book.specs.layouts.Reading.{ReadOutcome, entryAt, readChecks, reading, onEntry}
+use Rattle.book.specs.rules.Step.{Reply, reply, paidBy}
 use Rattle.book.specs.rules.Valid.{Valid}
-use Rattle.book.specs.runs.Running.{Run, paidBy, lineOf, stopped, lined, onEntry, run}
+use Rattle.book.specs.runs.Running.{Run, lineOf, stopped, lined, run}
 use Rattle.book.specs.declared.entries.Entry.{Entry}
 use Rattle.book.specs.declared.Book.{Book}
 use Rattle.book.proofs.rules.CheckLaws.{all-pass}

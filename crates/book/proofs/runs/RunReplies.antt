@@ -13,8 +13,8 @@ use Rattle.book.specs.Checks.{refusal}
 use Rattle.book.specs.layouts.Reading.{reading}
 use Rattle.book.specs.rules.State.{view, pack, Making, makingChecks, made}
 use Rattle.book.specs.rules.Refusals.{Input}
-use Rattle.book.specs.rules.Step.{Reply, reply}
-use Rattle.book.specs.runs.Running.{Run, paidBy, lineOf, stopped, lined, run, inputsOf}
+use Rattle.book.specs.rules.Step.{Reply, reply, paidBy}
+use Rattle.book.specs.runs.Running.{Run, lineOf, stopped, lined, run, inputsOf}
 use Rattle.book.specs.history.Log.{Accepted, Log, moneyPaid}
 use Rattle.book.specs.history.Demand3.{History, begun, next, after}
 use Rattle.book.specs.runs.RunDemand3.{Block, ran, entriesIn, afterRun, Work, afterWork, afterAll}

@@ -17,10 +17,9 @@ use Rattle.book.specs.rules.Periods.{zeros, fresh, changed}
 use Rattle.book.specs.layouts.Reading.{ReadOutcome, reading}
 use Rattle.book.specs.rules.State.{view, pack, mostPeriods, noPeriod, added}
 use Rattle.book.specs.rules.Refusals.{Input, barring, periodChecks, checks}
-use Rattle.book.specs.rules.Step.{payoutWords, opened, reply}
+use Rattle.book.specs.rules.Step.{payoutWords, opened, reply, paidBy}
 use Rattle.book.specs.rules.Valid.{Valid}
 use Rattle.book.specs.inner.OnePeriod.{Effect, effect}
-use Rattle.book.specs.runs.Running.{paidBy}
 use Rattle.book.specs.inner.Ways.{NamedAt, Takes, ReadAt, Decides}
 use Rattle.book.specs.inner.Postings.{Postings, posts, postings, cleared}
 use Rattle.book.specs.declared.answers.Answer.{Answer}

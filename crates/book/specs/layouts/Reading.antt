@@ -50,3 +50,8 @@ readOutcome place (Found entry next) = record { answer = 0; place = next; entry 
 readOutcome place Short = record { answer = 1; place = place; entry = [] }
 readOutcome place Unknown = record { answer = 2; place = place; entry = [] }
 readOutcome place Outside = record { answer = 3; place = place; entry = [] }
+
+-- what is done with the entry that was read, or where none was
+abbrev pub onEntry : {A : Type 0} → List Entry → (Entry → A) → A → A
+onEntry [] next stop = stop
+onEntry (e ∷ l) next stop = next e

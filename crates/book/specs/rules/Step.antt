@@ -3,7 +3,7 @@ use Prim.Native.Nat.{ℕ}
 use mathlib.Core.Bool.{cond}
 use mathlib.Core.List.{List}
 use lib.Dec.{eqb}
-use Rattle.exact.specs.Rows.{places, at, filled}
+use Rattle.exact.specs.Rows.{places, at, sum, filled}
 use Rattle.book.specs.Checks.{refusal}
 use Rattle.book.specs.rules.Kinds.{periodOf, isOpen}
 use Rattle.book.specs.rules.Periods.{fresh, Change, changed, leaves, zeros}
@@ -66,3 +66,7 @@ reply b x = record {
   book = pack (step (view b) x .state);
   words = step (view b) x .words;
 }
+
+-- the cents that an entry paid n participants; a refused one pays nothing
+unfoldable pub paidBy : ℕ → Reply → ℕ
+paidBy n r = cond (eqb (r .answer) 0) (sum (at (r .words)) n) 0

@@ -8,8 +8,8 @@ use Rattle.exact.specs.Rows.{at, sum}
 use Rattle.book.specs.layouts.Reading.{reading}
 use Rattle.book.specs.rules.State.{Making}
 use Rattle.book.specs.rules.Refusals.{Input}
-use Rattle.book.specs.rules.Step.{Reply, reply}
-use Rattle.book.specs.runs.Running.{Run, paidBy, lineOf}
+use Rattle.book.specs.rules.Step.{Reply, reply, paidBy}
+use Rattle.book.specs.runs.Running.{Run, lineOf}
 use Rattle.book.specs.history.Log.{moneyPaid}
 use Rattle.book.specs.history.Demand3.{History, begun}
 use Rattle.book.specs.runs.RunDemand3.{Block, ran, entriesIn, afterRun, Work, afterWork, afterAll, RunDemand3}

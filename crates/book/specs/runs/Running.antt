@@ -3,12 +3,10 @@ use Prim.Native.Nat.{ℕ, zero, suc}
 use mathlib.Core.Bool.{cond}
 use mathlib.Core.List.{List, [], _∷_, _++_}
 use lib.Dec.{eqb}
-use Rattle.exact.specs.Rows.{at, sum}
-use Rattle.book.specs.layouts.Reading.{reading}
+use Rattle.book.specs.layouts.Reading.{reading, onEntry}
 use Rattle.book.specs.rules.State.{centsHeld}
 use Rattle.book.specs.rules.Refusals.{Input}
-use Rattle.book.specs.rules.Step.{Reply, reply}
-use Rattle.book.specs.declared.entries.Entry.{Entry}
+use Rattle.book.specs.rules.Step.{Reply, reply, paidBy}
 use Rattle.book.specs.declared.Book.{Book}
 
 -- what a run leaves: the book, the place of the next entry, the payout words, and the lines of its entries
@@ -17,10 +15,6 @@ pub record Run : Type 0 where
   pub place : ℕ
   pub words : List ℕ
   pub lines : List ℕ
-
--- the cents that an entry paid n participants; a refused one pays nothing
-unfoldable pub paidBy : ℕ → Reply → ℕ
-paidBy n r = cond (eqb (r .answer) 0) (sum (at (r .words)) n) 0
 
 -- the three words of an entry's line: its answer, the cents paid by it and the cents held
 abbrev pub lineOf : ℕ → Reply → List ℕ
@@ -32,11 +26,6 @@ stopped b place words = record { book = b; place = place; words = words; lines =
 -- a line, and what follows it
 abbrev pub lined : List ℕ → Run → Run
 lined line r = record { book = r .book; place = r .place; words = r .words; lines = line ++ r .lines }
-
--- what is done with the entry that was read, or where none was
-abbrev pub onEntry : {A : Type 0} → List Entry → (Entry → A) → A → A
-onEntry [] next stop = stop
-onEntry (e ∷ l) next stop = next e
 
 -- the entries of the bytes from a place on, while there is room for a line: before the first that cannot be read, or with
 -- the first that has paid

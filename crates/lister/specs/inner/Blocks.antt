@@ -1,29 +1,30 @@
 -- A block of the input: the bytes that are there of it, listed from a place on.
-use Prim.Native.Nat.{ℕ, _%_, _^_, _≤_, _<_}
+use Prim.Native.Nat.{ℕ, _≤_, _<_, min}
 use mathlib.Core.Path.{_≡_}
 use mathlib.Core.Bool.{Bool, true, false, cond}
-use mathlib.Core.List.{List, []}
+use mathlib.Core.List.{List, [], _++_}
 use lib.ListN.{length, getD, drop}
 use Rattle.text.specs.Puts.{Puts}
-use Rattle.text.specs.Streams.{isEnded, isFailed}
+use Rattle.text.specs.Streams.{most, isEnded, isFailed}
 use Rattle.text.specs.declared.streams.Last.{Last}
 use Rattle.text.specs.declared.streams.Last.the-variants.{More}
 use Rattle.text.specs.declared.streams.Fetched.{Fetched}
 use Rattle.text.specs.declared.streams.Output.{Output}
 use Rattle.book.specs.layouts.Reading.{reading}
+use Rattle.book.specs.rules.State.{centsHeld}
 use Rattle.book.specs.rules.Valid.{Valid}
 use Rattle.book.specs.rules.Words.{AgreeFrom}
 use Rattle.book.specs.declared.Book.{Book}
 use Rattle.lister.specs.Lines.{header}
-use Rattle.lister.specs.Listing.{lent, bookFor}
-use Rattle.lister.specs.Pieces.{Stand, fed, rest, Lists}
+use Rattle.lister.specs.Listing.{lent, endLine, bookFor}
+use Rattle.lister.specs.Pieces.{Stand, Lists}
 use Rattle.lister.specs.declared.ends.End.{End}
 use Rattle.lister.specs.declared.ends.End.the-variants.{Unread, Input, NotRead}
 use Rattle.lister.specs.declared.blocks.Standing.{Standing}
 use Rattle.lister.specs.declared.blocks.Next.{Next}
 use Rattle.lister.specs.declared.blocks.Next.the-variants.{Again, Read, Done}
 
--- the bytes of output that wait before they are written out, and that there is room for
+-- more bytes of output than this wait to be written out; and the bytes that there is room for
 abbrev pub waiting : ℕ
 waiting = 212992
 
@@ -40,14 +41,22 @@ pub record Ready (feed : List ℕ) (s : Standing) (words : List ℕ) : Type 0 wh
   pub within : s .place ≤ length feed
   pub agree : AgreeFrom (s .book .n) words lent
 
--- what is listed of a block by what is to be done next: list on in the block; read, since the bytes left are a part of an
--- entry and the input has not ended; or nothing, since the listing is whole, at the end of the input or whatever follows
-abbrev pub Goes : Bool → Next → Stand → List ℕ → Stand → Type 0
-Goes ended Again a put z = Lists a put z × (length (z .left) < length (a .left))
-Goes false Read a put z = Lists a put z × (length (z .left) ≤ length (a .left)) × (reading (z .left) 0 .answer ≡ 1)
-Goes true Read a put z = ⊥
-Goes false Done a put z = (more : List ℕ) → rest (fed a more) ≡ put
-Goes true Done a put z = rest a ≡ put
+-- the listing ends before the bytes left: they cannot be read as an entry, and if the input has not ended no further bytes
+-- make one of them
+pub record Ends (ended : Bool) (a : Stand) (put : List ℕ) (z : Stand) : Type 0 where
+  pub before : List ℕ
+  pub lists : Lists a before z
+  pub none : reading (z .left) 0 .entry ≡ []
+  pub whole : put ≡ before ++ endLine (z .number) (centsHeld (z .book)) (z .left)
+  pub for-good : ended ≡ false → reading (z .left) 0 .answer ≡ 1 → ⊥
+
+-- what is listed of a block, by what is to be done next: list on, since output waits; read, since the bytes left are short and
+-- the input has not ended; or nothing
+abbrev pub Goes : Bool → Next → ℕ → Stand → List ℕ → Stand → Type 0
+Goes ended Again wrote a put z = Lists a put z × (length (z .left) < length (a .left)) × (waiting < wrote)
+Goes false Read wrote a put z = Lists a put z × (length (z .left) ≤ length (a .left)) × (reading (z .left) 0 .answer ≡ 1)
+Goes true Read wrote a put z = ⊥
+Goes ended Done wrote a put z = Ends ended a put z
 
 -- the bytes of output put from the first on, and where the listing then stands, ready to go on
 pub record Wrote (feed out : List ℕ) (z : Standing) (after words put : List ℕ) : Type 0 where
@@ -68,9 +77,9 @@ pub record RunsListed (feed : List ℕ) (a : Standing) (out : List ℕ) (z : Sta
 pub record BlockListed (feed : List ℕ) (a : Standing) (ended : Bool) (out : List ℕ) (z : Standing) (after words : List ℕ) : Type 0 where
   pub put : List ℕ
   pub wrote : Wrote feed out z after words put
-  pub goes : Goes ended (z .next) (standIn feed a) put (standIn feed z)
+  pub goes : Goes ended (z .next) (z .wrote) (standIn feed a) put (standIn feed z)
 
--- why a listing ended that was written whole, by what the last read left
+-- why a listing ended, by what the last read left
 abbrev pub whyEnded : Last → End
 whyEnded l = cond (isFailed l) NotRead (cond (isEnded l) Input Unread)
 
@@ -79,7 +88,7 @@ whyEnded l = cond (isFailed l) NotRead (cond (isEnded l) Input Unread)
 pub record Begun (first : Book) (read : Fetched) (o : Output) (feed words : List ℕ) : Type 0 where
   pub some : 0 < read .filled
   pub within : read .filled ≤ length feed
-  pub read-counted : read .input .total ≡ read .filled % 2 ^ 64
+  pub read-counted : read .input .total ≡ min (read .filled) most
   pub brought : read .input .last ≡ More
   pub header-counted : o .total ≡ length header
   pub header-written : o .all ≡ true

@@ -1,7 +1,13 @@
-use mathlib.Core.Path.{ap}
+use mathlib.Core.Path.{_≡_, sym, ap, _∙_}
+use mathlib.Core.Bool.{true}
 use native.Mathlib.Omega.{arith}
+use borrow.Author.Tests.{not-false}
 use lib.ListN.{length, length-take}
 use Prim.Native.Nat.{_+_, _-_, _≤_}
+use Rattle.text.specs.declared.streams.Last.the-variants.{More}
+use Rattle.text.specs.declared.streams.Input.{Input}
+use Rattle.text.specs.declared.streams.Output.{Output}
+use Rattle.text.proofs.StreamLaws.{brought}
 use Rattle.book.specs.rules.Valid.{Valid}
 use borrow.Author.Needs.{needs}
 use Rattle.trial.proofs.call_all.Statement.{statement}
@@ -9,7 +15,7 @@ use Rattle.trial.proofs.call_all.Tie as tie
 
 abbrev Inv-loop : tie.InvT-loop
 Inv-loop bytes₀ out₀ b₀ input₀ output₀ filled₀ place₀ turns₀ bytes out b input output filled place turns =
-    Valid b × (place ≤ filled) × (filled ≤ 131072) × (turns ≤ 18446744073709551615)
+    Valid b × (place ≤ filled) × (filled ≤ 131072) × (turns ≤ 18446744073709551615) × (input .last ≡ More) × (output .all ≡ true)
 
 abbrev μ-loop : tie.MeasureT-loop
 μ-loop bytes₀ out₀ b₀ input₀ output₀ filled₀ place₀ turns₀ bytes out b input output filled place turns = 18446744073709551615 - turns
@@ -21,7 +27,8 @@ unwritten-requires : tie.Need-unwritten-requires Inv-loop μ-loop
 unwritten-requires c κs = search needs
 
 loop-holds : tie.Need-loop-holds Inv-loop μ-loop
-loop-holds c = search needs
+loop-holds c =
+    (c .before .before .pre, omega arith, omega arith, omega arith, ap (λ (i : Input). i .last) (c .before .unread .ensures), ap (λ (o : Output). o .all) (c .unwritten .ensures))
 
 add-turns : tie.Need-add-turns Inv-loop μ-loop
 add-turns c = search needs
@@ -42,13 +49,25 @@ keep-requires : tie.Need-keep-requires Inv-loop μ-loop
 keep-requires c κs = search needs
 
 read-more-requires : tie.Need-read-more-requires Inv-loop μ-loop
-read-more-requires c κs = search needs
+read-more-requires c κs =
+    let n : length (c .before .before .keep .last .0) ≡ 131072 = search needs in
+    (c .before .before .before .before .before .before .before .before .before .before .before .before .before .loop .inv .4, omega (arith, n, c .before .if3 .left))
 
 loop-less : tie.Need-loop-less Inv-loop μ-loop
 loop-less c = search needs
 
 loop-again : tie.Need-loop-again Inv-loop μ-loop
-loop-again c = search needs
+loop-again c =
+    let l = c .before .before .before .before .before .before .before .before .before .before .before .before .before .before .before .before .before .loop in
+    let f = c .before .before .before .read-more .ensures in
+    let n : length (c .before .before .before .read-more .last .1 .0) ≡ 131072 = search needs in (
+      l .inv .0,
+      omega arith,
+      omega (arith, n, f .within),
+      omega (arith, c .before .before .before .before .before .before .before .before .before .before .before .before .before .before .before .before .loop-test .taken),
+      brought _ _ (f .came) (omega (arith, f .onward, c .before .if4 .left)),
+      l .inv .5,
+    )
 
 part-requires-2 : tie.Need-part-requires-2 Inv-loop μ-loop
 part-requires-2 c κs = search needs
@@ -59,7 +78,9 @@ call-requires c κs =
     (l .inv .0, omega (arith, c .before .before .before .before .before .before .call-at .ensures, ap length (c .before .before .before .before .before .before .before .part .ensures), ap length (c .before .part2 .ensures)))
 
 write-out-requires : tie.Need-write-out-requires Inv-loop μ-loop
-write-out-requires c κs = search needs
+write-out-requires c κs =
+    let n : length (c .before .before .before .call .last .1 .1 .1 .0) ≡ 65536 = search needs in
+    (c .before .before .before .before .before .before .before .before .before .before .before .before .before .before .before .loop .inv .5, omega (arith, n, c .before .before .before .call .ensures .1))
 
 is-written-requires : tie.Need-is-written-requires Inv-loop μ-loop
 is-written-requires c κs = search needs
@@ -83,6 +104,8 @@ loop-again-2 c =
       within (c .before .before .before .before .before .before .before .before .before .before .before .before),
       l .inv .2,
       omega (arith, c .before .before .before .before .before .before .before .before .before .before .before .before .before .before .before .before .before .loop-test .taken),
+      l .inv .4,
+      sym (c .before .is-written .ensures) ∙ not-false _ (c .if5 .left),
     )
 
 returns : tie.Need-returns Inv-loop μ-loop

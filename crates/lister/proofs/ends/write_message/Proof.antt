@@ -18,7 +18,7 @@ returns : tie.Need-returns
 returns c =
     let p = c .before .before .before .before .put-message .ensures in
     let z : c .before .before .before .unwritten .result .total ≡ 0 = ap (λ (o : Output). o .total) (c .before .before .before .unwritten .ensures) in
-    omega (arith, c .write-error .ensures, z, p .0 .next, p .1)
+    record { bytes = p .0 .bytes; next = omega (arith, c .write-error .ensures, z, p .0 .next, p .1) }
 
 pub write-message-spec : {M : Type 1} → statement M
 write-message-spec =

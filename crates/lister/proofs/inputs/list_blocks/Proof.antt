@@ -5,7 +5,7 @@ use native.Mathlib.Omega.{arith}
 use borrow.Author.Tests.{not-true, not-false}
 use lib.ListN.{length}
 use Rattle.lister.specs.Sessions.{Session}
-use Rattle.lister.proofs.SessionLaws.{Looping, loop-begins, loop-turns, ready-part, Turned, turned, turn-not-written, turn-done, turn-again, left-few, turn-not-read, turn-read}
+use Rattle.lister.proofs.SessionLaws.{Looping, loop-begins, loop-turns, ready-part, Turned, turned, turn-not-written, turn-done, turn-again, left-more, left-few, turn-not-read, turn-read}
 use borrow.Author.Needs.{needs}
 use Rattle.lister.proofs.inputs.list_blocks.Statement.{statement}
 use Rattle.lister.proofs.inputs.list_blocks.Tie as tie
@@ -39,7 +39,7 @@ list-block-requires c κs = ready-part (c .before .before .before .before .befor
 write-out-requires : tie.Need-write-out-requires Inv-loop μ-loop
 write-out-requires c κs =
     let n : length (c .before .before .list-block .last .1 .1 .1 .0) ≡ 262144 = search needs in
-    omega (arith, n, c .before .before .list-block .ensures .wrote .room)
+    (c .before .before .before .before .before .before .before .before .before .before .before .loop .inv .0 .written, omega (arith, n, c .before .before .list-block .ensures .wrote .room))
 
 -- a block was listed, and what was put handed over
 after : (c : tie.After-write-out Inv-loop μ-loop)
@@ -79,7 +79,7 @@ read-more-requires : tie.Need-read-more-requires Inv-loop μ-loop
 read-more-requires c κs =
     let k = c .before .keep in
     let n : length (k .last .0) ≡ 65536 = search needs in
-    omega (arith, n, k .ensures .0, left-few (after (c .before .before .before .before .before .before .before)) (c .before .before .before .enum-told2 .given .1) (written (c .before .before .before .before .before)))
+    (left-more (after (c .before .before .before .before .before .before .before)) (c .before .before .before .enum-told2 .given .1) (written (c .before .before .before .before .before)), omega (arith, n, k .ensures .0, left-few (after (c .before .before .before .before .before .before .before)) (c .before .before .before .enum-told2 .given .1) (written (c .before .before .before .before .before))))
 
 has-failed-requires : tie.Need-has-failed-requires Inv-loop μ-loop
 has-failed-requires c κs = search needs

@@ -5,10 +5,11 @@ use borrow.Author.Tests.{not-true, not-false}
 use lib.ListN.{length}
 use Rattle.text.specs.declared.streams.Input.{Input}
 use Rattle.text.specs.declared.streams.Output.{Output}
+use Rattle.text.proofs.StreamLaws.{brought}
 use Rattle.lister.specs.Lines.{header}
 use Rattle.lister.specs.Listing.{bookFor}
 use Rattle.lister.specs.Sessions.{Session}
-use Rattle.lister.proofs.BeginLaws.{brought, header-not-written, nothing-read}
+use Rattle.lister.proofs.BeginLaws.{header-not-written, nothing-read}
 use borrow.Author.Needs.{needs}
 use Rattle.lister.proofs.inputs.list_input.Statement.{statement}
 use Rattle.lister.proofs.inputs.list_input.Tie as tie
@@ -46,7 +47,7 @@ unread-requires-2 : tie.Need-unread-requires-2
 unread-requires-2 c κs = search needs
 
 read-more-requires : tie.Need-read-more-requires
-read-more-requires c κs = search needs
+read-more-requires c κs = (ap (λ (i : Input). i .last) (c .before .unread2 .ensures), search needs)
 
 why-ended-requires : tie.Need-why-ended-requires
 why-ended-requires c κs = search needs
@@ -61,7 +62,7 @@ returns-2 c =
     let z = c .before .before .before .if2 .taken in
     subst Session (sym (c .ended-by2 .ensures))
     (rw (c .before .why-ended .ensures)
-    (nothing-read _ _ (omega (arith, u, f .counted, z)) (sent (c .before .before .before .before .before .before .before .before .before .before)) _ (f .left) z (sym (c .before .before .before .before .before .before .before .before .before .is-written .ensures) ∙ not-false _ (c .before .before .before .before .before .before .before .before .if1 .left))))
+    (nothing-read _ _ (omega (arith, u, f .counted, z)) (sent (c .before .before .before .before .before .before .before .before .before .before)) _ (f .came) (omega (arith, z)) (sym (c .before .before .before .before .before .before .before .before .before .is-written .ensures) ∙ not-false _ (c .before .before .before .before .before .before .before .before .if1 .left))))
 
 element-copy-out-size : tie.Need-element-copy-out-size
 element-copy-out-size c = search needs
@@ -81,7 +82,7 @@ list-blocks-requires c κs =
       some = some;
       within = f .within;
       read-counted = omega (arith, u, f .counted);
-      brought = brought _ _ (f .left) some;
+      brought = brought _ _ (f .came) (omega (arith, some));
       header-counted = sent (c .before .before .before .before .before .before .before .before .before .before .before .before .before .before .before);
       header-written = sym (c .before .before .before .before .before .before .before .before .before .before .before .before .before .before .is-written .ensures) ∙ not-false _ (c .before .before .before .before .before .before .before .before .before .before .before .before .before .if1 .left);
       book = c .before .before .before .before .before .new .ensures .1 ∙ ap bookFor (c .before .before .before .before .before .before .size .ensures);

@@ -1,18 +1,13 @@
 use Prim.Native.Nat.{_+_, _-_, _≤_}
-use mathlib.Core.Path.{_≡_}
+use mathlib.Core.Path.{_≡_, ap}
 use native.Mathlib.Omega.{arith}
 use lib.ListN.{length}
 use borrow.Rule.Slice.PartMut.{take-put}
-use Rattle.text.proofs.StreamLaws.{left-of}
+use Rattle.text.specs.declared.streams.Fetched.{Fetched}
+use Rattle.text.proofs.StreamLaws.{came-of}
 use borrow.Author.Needs.{needs}
 use Rattle.text.proofs.streams.read_more.Statement.{statement}
 use Rattle.text.proofs.streams.read_more.Tie as tie
-use Rattle.text.proofs.streams.read_more.Reads as reads
-use Rattle.text.proofs.streams.read_more.Lts as lts
-use Rattle.io.proofs.count.Reads as count-reads
-use Rattle.libc.proofs.read.Reads as read-reads
-use Rattle.std.proofs.num.wrapping_add_u64.Reads as wrapping-add-u64-reads
-use Rattle.text.proofs.streams.last_of.Reads as last-of-reads
 
 sub-rest : tie.Need-sub-rest
 sub-rest c = search needs
@@ -29,32 +24,28 @@ read-requires c κs = search needs
 count-requires : tie.Need-count-requires
 count-requires c κs = search needs
 
-add-count : tie.Need-add-count
-add-count c = search needs
-
-wrapping-add-u64-requires : tie.Need-wrapping-add-u64-requires
-wrapping-add-u64-requires c κs = search needs
-
-last-of-requires : tie.Need-last-of-requires
-last-of-requires c κs = search needs
+taken-requires : tie.Need-taken-requires
+taken-requires c κs = search needs
 
 same-length : tie.Need-same-length
 same-length c = search needs
 
 returns : tie.Need-returns
 returns c =
-    let s = c .before .before .before .before .before .before .before .before .before .before .before .before in
+    let s = c .before .before .before .before .before .before .before .before .before .before .before in
     let a = s .args in
-    let r = c .before .before .before .before .before .before .before .before .read in
-    let got = c .before .before .before .before .count .result in
-    let k : a .filled ≤ length (a .block .now) = omega (arith, s .pre) in
-    let e : a .filled + got - a .filled ≡ got = omega arith in
+    let r = c .before .before .before .before .before .before .before .read in
+    let more = c .before .before .before .count .result in
+    let k : a .filled ≤ length (a .block .now) = omega (arith, s .pre .1) in
+    let e : a .filled + more - a .filled ≡ more = omega arith in
+    let q = c .taken .ensures in
+    let filled : c .taken .result .filled ≡ a .filled + more = ap (λ (x : Fetched). x .filled) q in
     record {
-      more = search needs;
-      within = search needs;
+      onward = omega (arith, filled);
+      within = rw filled (search needs);
       same = take-put (a .filled) (length (a .block .now) - a .filled) (a .block .now) (r .last .1 .0) k;
-      left = left-of _ _ _ _ (c .last-of .ensures) (omega arith);
-      counted = rw e (c .before .wrapping-add-u64 .ensures);
+      came = rw (ap (λ (x : Fetched). x .input .last) q, filled, e) (came-of _ more);
+      counted = rw (ap (λ (x : Fetched). x .input .total) q, filled, e);
     }
 
 pub read-more-spec : {M : Type 1} → statement M
@@ -66,8 +57,6 @@ read-more-spec =
     part-rest-end
     read-requires
     count-requires
-    add-count
-    wrapping-add-u64-requires
-    last-of-requires
+    taken-requires
     same-length
     returns)
