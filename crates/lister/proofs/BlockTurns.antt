@@ -16,7 +16,8 @@ use Rattle.book.proofs.Laws.{reading-before, reading-empty}
 use Rattle.lister.specs.Lines.{entryLine}
 use Rattle.lister.specs.Listing.{endLine, listingFrom}
 use Rattle.lister.specs.Pieces.{Stand, fed, rest}
-use Rattle.lister.specs.inner.Blocks.{waiting, outRoom, standIn, Ends, Goes, RunsListed, BlockListed}
+use Rattle.lister.specs.Turns.{waiting, Ends, Goes}
+use Rattle.lister.specs.inner.Blocks.{outRoom, standIn, RunsListed, BlockListed}
 use Rattle.lister.specs.declared.blocks.Standing.{Standing}
 use Rattle.lister.specs.declared.blocks.Next.{Next}
 use Rattle.lister.specs.declared.blocks.Next.the-variants.{Read, Done}

@@ -4,6 +4,7 @@ mod PieceLaws
 mod RunLists
 mod RunTurns
 mod BlockTurns
+mod TurnLaws
 mod BeginLaws
 mod SessionLaws
 mod Examples

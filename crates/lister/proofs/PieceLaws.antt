@@ -1,11 +1,11 @@
--- Listings put one after the other, and an input that comes in pieces.
+-- Listings put one after the other, and further bytes handed over.
 use Prim.Native.Nat.{ℕ, _+_, _%_, _^_}
-use mathlib.Core.Path.{_≡_, refl, sym, ap, subst, _∙_}
+use mathlib.Core.Path.{_≡_, refl, sym, ap, _∙_}
 use mathlib.Core.List.{List, [], _∷_, _++_, append-assoc, append-nil}
 use Rattle.book.specs.declared.Book.{Book}
 use Rattle.lister.specs.Lines.{header}
 use Rattle.lister.specs.Listing.{listingFrom, listing, bookFor}
-use Rattle.lister.specs.Pieces.{Stand, fed, rest, Lists, Stands, Turn, Follow, pieces, allPut, JoinedPieces}
+use Rattle.lister.specs.Pieces.{Stand, fed, rest, Lists, Stands}
 use Rattle.lister.proofs.ListingLaws.{listing-mod}
 
 pub lists-none : (a : Stand) → Lists a [] a
@@ -53,23 +53,7 @@ module _ {seen put : List ℕ} {a : Stand} (s : Stands seen put a) where
   pub stands-closed : {l : List ℕ} → ((more : List ℕ) → rest (fed a more) ≡ l) → (more : List ℕ) → listing (seen ++ more) ≡ put ++ l
   stands-closed e more = s .whole more ∙ ap (λ (x : List ℕ). put ++ x) (e more)
 
-follow-stands : {seen put : List ℕ} {a z : Stand} (ts : List Turn) → Stands seen put a → Follow a ts z → Stands (seen ++ pieces ts) (put ++ allPut ts) z
-follow-stands {seen} {put} {a} {z} [] s f =
-    subst (λ (l : List ℕ). Stands l (put ++ []) z) (sym (append-nil seen)) (subst (λ (l : List ℕ). Stands seen l z) (sym (append-nil put)) (subst (Stands seen put) f s))
-follow-stands {seen} {put} {a} {z} (t ∷ ts) s f =
-    subst (λ (l : List ℕ). Stands l (put ++ (t .put ++ allPut ts)) z) (append-assoc seen (t .piece) (pieces ts))
-    (subst (λ (l : List ℕ). Stands ((seen ++ t .piece) ++ pieces ts) l z) (append-assoc put (t .put) (allPut ts))
-    (follow-stands ts (stands-listed (stands-fed s (t .piece)) (f .0)) (f .1)))
-
 -- an input of no byte
 pub listing-empty : listing [] ≡ header
 unfolding listing
 listing-empty = refl
-
-pub joined-pieces : JoinedPieces
-joined-pieces = record {
-  empty = listing-empty;
-  joined = λ n ts z f.
-      let s = follow-stands ts (stands-first n []) f in
-      record { so-far = s; at-the-end = λ put e. stands-ended s e; before-all = λ put e more. stands-closed s e more };
-}

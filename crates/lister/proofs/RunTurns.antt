@@ -16,7 +16,8 @@ use Rattle.book.proofs.Laws.{reading-front, Ends}
 use Rattle.lister.specs.Listing.{lent}
 use Rattle.lister.specs.Pieces.{Lists}
 use Rattle.lister.specs.inner.Runs.{runLines}
-use Rattle.lister.specs.inner.Blocks.{waiting, outRoom, RunsListed}
+use Rattle.lister.specs.Turns.{waiting}
+use Rattle.lister.specs.inner.Blocks.{outRoom, RunsListed}
 use Rattle.lister.specs.declared.blocks.Standing.{Standing}
 use Rattle.lister.specs.declared.blocks.Next.the-variants.{Again}
 use Rattle.lister.proofs.LineLaws.{run-none, run-stored}

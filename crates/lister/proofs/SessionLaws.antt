@@ -23,7 +23,8 @@ use Rattle.lister.specs.Lines.{header}
 use Rattle.lister.specs.Listing.{listing}
 use Rattle.lister.specs.Pieces.{rest, Stands}
 use Rattle.lister.specs.Sessions.{Listed, Told, Session}
-use Rattle.lister.specs.inner.Blocks.{standIn, Ready, Goes, BlockListed, whyEnded, Begun}
+use Rattle.lister.specs.Turns.{Goes}
+use Rattle.lister.specs.inner.Blocks.{standIn, Ready, BlockListed, whyEnded, Begun}
 use Rattle.lister.specs.declared.blocks.Standing.{Standing}
 use Rattle.lister.specs.declared.blocks.Next.{Next}
 use Rattle.lister.specs.declared.blocks.Next.the-variants.{Again, Read, Done}

@@ -1,8 +1,8 @@
 -- A block of the input: the bytes that are there of it, listed from a place on.
 use Prim.Native.Nat.{ℕ, _≤_, _<_, min}
 use mathlib.Core.Path.{_≡_}
-use mathlib.Core.Bool.{Bool, true, false, cond}
-use mathlib.Core.List.{List, [], _++_}
+use mathlib.Core.Bool.{Bool, true, cond}
+use mathlib.Core.List.{List, []}
 use lib.ListN.{length, getD, drop}
 use Rattle.text.specs.Puts.{Puts}
 use Rattle.text.specs.Streams.{most, isEnded, isFailed}
@@ -11,23 +11,19 @@ use Rattle.text.specs.declared.streams.Last.the-variants.{More}
 use Rattle.text.specs.declared.streams.Fetched.{Fetched}
 use Rattle.text.specs.declared.streams.Output.{Output}
 use Rattle.book.specs.layouts.Reading.{reading}
-use Rattle.book.specs.rules.State.{centsHeld}
 use Rattle.book.specs.rules.Valid.{Valid}
 use Rattle.book.specs.rules.Words.{AgreeFrom}
 use Rattle.book.specs.declared.Book.{Book}
 use Rattle.lister.specs.Lines.{header}
-use Rattle.lister.specs.Listing.{lent, endLine, bookFor}
+use Rattle.lister.specs.Listing.{lent, bookFor}
 use Rattle.lister.specs.Pieces.{Stand, Lists}
+use Rattle.lister.specs.Turns.{waiting, Goes}
 use Rattle.lister.specs.declared.ends.End.{End}
 use Rattle.lister.specs.declared.ends.End.the-variants.{Unread, Input, NotRead}
 use Rattle.lister.specs.declared.blocks.Standing.{Standing}
-use Rattle.lister.specs.declared.blocks.Next.{Next}
-use Rattle.lister.specs.declared.blocks.Next.the-variants.{Again, Read, Done}
+use Rattle.lister.specs.declared.blocks.Next.the-variants.{Again}
 
--- more bytes of output than this wait to be written out; and the bytes that there is room for
-abbrev pub waiting : ℕ
-waiting = 212992
-
+-- the bytes of output that there is room for
 abbrev pub outRoom : ℕ
 outRoom = 262144
 
@@ -40,23 +36,6 @@ pub record Ready (feed : List ℕ) (s : Standing) (words : List ℕ) : Type 0 wh
   pub valid : Valid (s .book)
   pub within : s .place ≤ length feed
   pub agree : AgreeFrom (s .book .n) words lent
-
--- the listing ends before the bytes left: they cannot be read as an entry, and if the input has not ended no further bytes
--- make one of them
-pub record Ends (ended : Bool) (a : Stand) (put : List ℕ) (z : Stand) : Type 0 where
-  pub before : List ℕ
-  pub lists : Lists a before z
-  pub none : reading (z .left) 0 .entry ≡ []
-  pub whole : put ≡ before ++ endLine (z .number) (centsHeld (z .book)) (z .left)
-  pub for-good : ended ≡ false → reading (z .left) 0 .answer ≡ 1 → ⊥
-
--- what is listed of a block, by what is to be done next: list on, since output waits; read, since the bytes left are short and
--- the input has not ended; or nothing
-abbrev pub Goes : Bool → Next → ℕ → Stand → List ℕ → Stand → Type 0
-Goes ended Again wrote a put z = Lists a put z × (length (z .left) < length (a .left)) × (waiting < wrote)
-Goes false Read wrote a put z = Lists a put z × (length (z .left) ≤ length (a .left)) × (reading (z .left) 0 .answer ≡ 1)
-Goes true Read wrote a put z = ⊥
-Goes ended Done wrote a put z = Ends ended a put z
 
 -- the bytes of output put from the first on, and where the listing then stands, ready to go on
 pub record Wrote (feed out : List ℕ) (z : Standing) (after words put : List ℕ) : Type 0 where
