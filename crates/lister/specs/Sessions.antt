@@ -17,9 +17,8 @@ use Rattle.lister.specs.declared.ends.End.{End}
 use Rattle.lister.specs.declared.ends.End.the-variants.{Unread, Input, Turns, NotRead, NotWritten}
 use Rattle.lister.specs.declared.ends.Ending.{Ending}
 
--- what was put when a listing ended, by why it ended: at bytes that cannot be read the listing of every input that begins so;
--- at the end of the input its listing; where a read failed the header, or all entries that are there whole; with its turns
--- used up some of them; where a write failed what was handed over is the front of the listing
+-- what was put when a listing ended, by why it ended: the listing of every input that begins with the bytes seen, or that of
+-- these bytes; the header, or all entries that are there whole; some of them; what was handed over is the front of the listing
 abbrev pub Listed : End → List ℕ → List ℕ → Type 0
 Listed Unread seen put = (more : List ℕ) → listing (seen ++ more) ≡ put
 Listed Input seen put = listing seen ≡ put
@@ -44,5 +43,5 @@ pub record Session (r : Ending) : Type 0 where
   pub put-counted : r .output .total ≡ min (length put) most
   pub listed : Listed (r .why) seen put
   pub told : Told (r .why) (r .input) (r .output) (r .turns)
-  -- no turn is taken for nothing, so they are used up only where 2 ^ 63 - 1 bytes were read
+  -- so the turns are used up only where 2 ^ 63 - 1 bytes were read
   pub few-turns : r .turns ≤ 2 * length seen + 2

@@ -5,12 +5,12 @@ ghost use lib.ListN.{length};
 ghost use Rattle.text.specs.Puts.{Puts};
 ghost use Rattle.lister.specs.Messages.{message};
 ghost use Rattle.lister.specs.inner.Blocks.{whyEnded};
+use text::Errors;
 use text::Input;
 use text::Output;
 use text::has_ended;
 use text::has_failed;
 use text::put_bytes;
-use text::unwritten;
 use text::write_error;
 
 // Why a listing ended: at bytes that cannot be read as an entry, at the end of the input, with its turns used up, or where
@@ -74,15 +74,16 @@ fn put_message(out: &mut Message, why: End) -> usize
     }
 }
 
-fn write_message(out: &mut Message, why: End) -> Output
+// Writes the message of an end to standard error.
+fn write_message(out: &mut Message, why: End) -> Errors
     ensures { λ r. ⌜ Puts (now (out .entry)) 0 (message why) (now (out .exit)) (r .total) ⌝ }
 {
     let count = put_message(out, why);
-    write_error(unwritten(), out, count)
+    write_error(out, count)
 }
 
 // Tells on standard error that standard input or output failed, or that the turns are used up.
-pub fn tell(e: Ending) -> Output
+pub fn tell(e: Ending) -> Errors
     ensures { λ r. ⌜ r .total ≡ length (message (e .why)) ⌝ }
 {
     let mut out = [0u8; MESSAGE];

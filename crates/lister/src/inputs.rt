@@ -1,5 +1,5 @@
-// The input, block after block. What reads and writes is here and in `text`: no contract can say what the C library
-// delivers or writes, so these lines are short.
+// The input, block after block. No contract can say what the C library delivers or writes, so that the bytes which were
+// read are those listed, and those listed the ones written, is to be read here.
 ghost use mathlib.Core.Path.{_≡_};
 ghost use Rattle.lister.specs.Listing.{lent};
 ghost use Rattle.lister.specs.Sessions.{Session};

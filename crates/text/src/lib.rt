@@ -8,6 +8,7 @@ pub use blocks::keep;
 pub use blocks::part;
 pub use numbers::put_number;
 pub use puts::put_bytes;
+pub use streams::Errors;
 pub use streams::Fetched;
 pub use streams::Input;
 pub use streams::Last;

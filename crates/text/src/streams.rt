@@ -1,6 +1,5 @@
-// Standard input, standard output and standard error. The fields of a stream are private: no program counts bytes that
-// these functions did not read or hand over, or says of an input that it has ended which they did not see end. Nothing is
-// read behind the end of an input or a failed read, and nothing written behind a failed write.
+// Standard input, output and error. The fields of a stream are private: only these functions count bytes, or say that an
+// input ended or failed. A caller makes each stream once, and hands each call the one that the call before gave.
 ghost use Prim.Native.Nat.{_+_, _^_, _≤_, _<_, min};
 ghost use mathlib.Core.Path.{_≡_};
 ghost use mathlib.Core.Bool.{true};
@@ -14,7 +13,8 @@ use libc::STDOUT_FILENO;
 // The largest number of 64 bits.
 const MOST: u64 = 0xffff_ffff_ffff_ffff;
 
-// What the last read left: more bytes than before, the end of the input, or nothing, since it failed.
+// What the last read left: more bytes than before, the end of the input, or nothing, since it failed. More where nothing was
+// read yet.
 pub enum Last {
     More,
     Ended,
@@ -27,8 +27,14 @@ pub struct Input {
     last: Last,
 }
 
-// An output: how many bytes were handed over for writing, counted alike, and whether all of them were written.
+// Standard output: how many bytes were handed over for writing, counted alike, and whether all of them were written.
 pub struct Output {
+    total: u64,
+    all: bool,
+}
+
+// The same of standard error, a type of its own, so that neither can stand for the other.
+pub struct Errors {
     total: u64,
     all: bool,
 }
@@ -101,7 +107,7 @@ fn counted(total: u64, more: usize) -> u64
     total + n
 }
 
-// What a read left of which C answered `got`, by how many bytes there were and how many came.
+// What a read left of which C answered `got`, by how many bytes came.
 fn last_of(got: isize, more: usize) -> Last
     ensures { λ r. ⌜ r ≡ lastOf got more ⌝ }
 {
@@ -140,30 +146,26 @@ pub fn read_more(i: Input, block: &mut [u8], filled: usize) -> Fetched
     taken(i, got, filled, more)
 }
 
-// Writes the first `count` bytes to a file.
-fn write(fd: i32, o: Output, block: &[u8], count: usize) -> Output
+// Writes the first `count` bytes to standard output.
+pub fn write_out(o: Output, block: &[u8], count: usize) -> Output
     requires { ⌜ (o .all ≡ true) × (count ≤ length (now block)) ⌝ }
     ensures { λ r. ⌜ r .total ≡ min (o .total + count) most ⌝ }
 {
-    let all = io::write_all(fd, &block[0..count]);
+    let all = io::write_all(STDOUT_FILENO, &block[0..count]);
     Output {
         total: counted(o.total, count),
         all,
     }
 }
 
-// Writes the first `count` bytes to standard output.
-pub fn write_out(o: Output, block: &[u8], count: usize) -> Output
-    requires { ⌜ (o .all ≡ true) × (count ≤ length (now block)) ⌝ }
-    ensures { λ r. ⌜ r .total ≡ min (o .total + count) most ⌝ }
-{
-    write(STDOUT_FILENO, o, block, count)
-}
-
 // Writes the first `count` bytes to standard error.
-pub fn write_error(o: Output, block: &[u8], count: usize) -> Output
-    requires { ⌜ (o .all ≡ true) × (count ≤ length (now block)) ⌝ }
-    ensures { λ r. ⌜ r .total ≡ min (o .total + count) most ⌝ }
+pub fn write_error(block: &[u8], count: usize) -> Errors
+    requires { ⌜ count ≤ length (now block) ⌝ }
+    ensures { λ r. ⌜ r .total ≡ min count most ⌝ }
 {
-    write(STDERR_FILENO, o, block, count)
+    let all = io::write_all(STDERR_FILENO, &block[0..count]);
+    Errors {
+        total: counted(0, count),
+        all,
+    }
 }
