@@ -8,9 +8,9 @@ use native.Mathlib.Omega.{arith}
 use native.Mathlib.Nat.{eq-or-lt-of-le, le-of-suc-le-suc, not-suc-le-zero, suc-inj, max-le}
 use native.Mathlib.Numerals.{add-one}
 use lib.Dec.{eqb}
-use lib.ListN.{getD, drop, set, length, length-append, length-drop, length-replicate, List·getD-append, List·getD-eq-default, replicate, getD-replicate}
-use lib.Seq.{drop-cons, drop-at, set-at, getD-at, set-getD}
-use Rattle.exact.proofs.Cases.{cases-eq, le-or-lt}
+use lib.ListN.{getD, drop, set, length, length-set, length-append, length-drop, length-replicate, List·getD-append, List·getD-eq-default, replicate, getD-replicate}
+use lib.Seq.{drop-cons, drop-at, set-at, getD-at, set-getD, getD-set-same, getD-set-other, ext-getD}
+use Rattle.exact.proofs.Cases.{cases-eq, le-or-lt, eq-or-ne}
 use Rattle.exact.specs.Rows.{places, at, sum, largest, table, filled, cells}
 
 module _ (f : ℕ → ℕ) where
@@ -124,6 +124,14 @@ module _ (f : ℕ → ℕ) where
   largest-le c zero h = omega arith
   largest-le c (suc n) h = max-le (largest-le c n (λ i k. h i (omega arith))) (h n (omega arith))
 
+  pub largest-term : (n i : ℕ) → i < n → f i ≤ largest f n
+  unfolding largest
+  largest-term zero i h = absurd (not-suc-le-zero h)
+  largest-term (suc n) i h =
+      ⊎-elim (λ (e : i ≡ n). rw e (omega arith))
+      (λ (l : i < n). omega (arith, largest-term n i l))
+      (eq-or-lt-of-le (le-of-suc-le-suc h))
+
   pub largest-cong : (g : ℕ → ℕ) (n : ℕ) → ((i : ℕ) → i < n → f i ≡ g i) → largest f n ≡ largest g n
   unfolding largest
   largest-cong g zero h = refl
@@ -231,6 +239,18 @@ module _ (f : ℕ → ℕ) where
   unfolding cells
   cells-zero n h z =
       sym (filled-same f 0 n (replicate places 0) h (λ i k. z i k ∙ sym (getD-replicate {A = ℕ} places i 0 0 (omega arith))))
+
+-- one cell of a whole array is set, and the row that it then holds differs there alone
+pub cells-set : (f g : ℕ → ℕ) (j : ℕ) → j < places → ((i : ℕ) → (i ≡ j → ⊥) → f i ≡ g i) → set (cells f places) j (g j) ≡ cells g places
+cells-set f g j h same =
+    let sized : length (cells f places) ≡ places = cells-length f places (omega arith) in
+    ext-getD 0 (set (cells f places) j (g j)) (cells g places) (simp length-set (sized ∙ sym (cells-length g places (omega arith))))
+    (λ i l.
+    let k : i < places = omega (arith, length-set (cells f places) j (g j)) in
+    ⊎-elim
+    (λ (e : i ≡ j). rw e (getD-set-same (cells f places) j (g j) 0 (omega arith) ∙ sym (cells-at g places j h)))
+    (λ ne. getD-set-other (cells f places) j i (g j) 0 ne ∙ cells-at f places i k ∙ same i ne ∙ sym (cells-at g places i k))
+    (eq-or-ne i j))
 
 -- the array a holds the row f below n
 pub record Holds (a : List ℕ) (f : ℕ → ℕ) (n : ℕ) : Type 0 where

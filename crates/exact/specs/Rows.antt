@@ -1,4 +1,4 @@
--- Rows: a number for each participant, as a function of the participant's number; sums, the largest, and arrays that hold a row.
+-- Rows: a number for each participant, or each group, as a function of its number; sums, the largest, and arrays of rows.
 use Prim.Native.Nat.{ℕ, zero, suc, _+_, max}
 use mathlib.Core.List.{List, [], _∷_, _++_}
 use lib.ListN.{getD, drop, replicate}

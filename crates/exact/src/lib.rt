@@ -14,6 +14,7 @@ pub use numbers::smaller;
 pub use rows::PLACES;
 pub use rows::Row;
 pub use rows::excesses;
+pub use rows::largest;
 pub use rows::minima;
 pub use rows::put_cells;
 pub use rows::sums;
