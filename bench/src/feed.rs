@@ -33,7 +33,7 @@ impl Feed {
     /// The entries, each of them taken by the book.
     pub fn make() -> Feed {
         let mut feed =
-            Feed { entries: vec![], random: Random::new(1), book: Book::make(N.into()).0 };
+            Feed { entries: vec![], random: Random::new(1), book: Book::alone(N.into()) };
         for _ in 0..YEARS {
             feed.year();
         }
@@ -185,7 +185,7 @@ fn slice(list: &mut Vec<Entry>, period: u32, payer: u8, cents: u64, slices: u64)
 
 /// How many entries of a feed add to a side and are accepted.
 pub fn added(entries: &[Entry]) -> usize {
-    let mut book = Book::make(N.into()).0;
+    let mut book = Book::alone(N.into());
     let adds = |entry: &&Entry| {
         let accepted = book.apply(entry, &mut [0; N as usize]).number == 0;
         accepted && matches!(entry.kind, ENERGY | AMOUNT)

@@ -73,13 +73,13 @@ impl Lent {
 
 #[inline(never)]
 fn notice(month: &Month) -> Notice {
-    month::notice(&month.sums)
+    month::notice(&month.sums, &month.making)
 }
 
 /// With the notice, as the export has it.
 #[inline(never)]
 fn settle(month: &Month) -> Settlement {
-    month::settle(&month.sums, &month::notice(&month.sums), &month.received)
+    month::settle(&month.sums, &month::notice(&month.sums, &month.making), &month.received)
 }
 
 #[inline(never)]

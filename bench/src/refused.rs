@@ -25,7 +25,7 @@ pub struct Alike {
 
 impl Alike {
     fn new(name: &'static str, n: u8, answer: u8) -> Alike {
-        let book = Book::make(n.into()).0;
+        let book = Book::alone(n.into());
         Alike { name, n, entries: vec![], answer, random: Random::new(2), book }
     }
 

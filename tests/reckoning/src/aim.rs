@@ -3,6 +3,7 @@
 
 use crate::book::{Book, Period, Stage, MOST_PERIODS, MOST_TOTAL};
 use crate::codec::{Entry, MOST_PRICE, MOST_QUANTITY};
+use crate::making::Making;
 use crate::random::Random;
 use std::collections::BTreeSet;
 
@@ -42,8 +43,8 @@ pub struct Aim {
 }
 
 impl Aim {
-    pub fn new(random: Random, n: u64, manner: Manner) -> Aim {
-        Aim { random, book: Book::make(n).0, manner, closing: BTreeSet::new() }
+    pub fn new(random: Random, making: &Making, manner: Manner) -> Aim {
+        Aim { random, book: Book::make(making).0, manner, closing: BTreeSet::new() }
     }
 
     /// The next entry; the book is not changed.

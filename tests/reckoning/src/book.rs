@@ -1,8 +1,10 @@
 //! The book: which entries it accepts, and what each accepted entry does.
 
 use crate::codec::{Entry, Field, AMOUNT, ENERGY, MOST_CENTS, NOTICE, OPEN, RECEIPT, SETTLE};
+use crate::making::Making;
 use crate::month::{self, Notice, Sums};
 use crate::refusals::*;
+use crate::retention::{retention, Retention};
 use std::collections::BTreeMap;
 
 pub const MOST_PARTICIPANTS: u64 = 64;
@@ -35,6 +37,10 @@ pub struct Answer {
 #[derive(Clone, Debug)]
 pub struct Book {
     pub n: usize,
+    /// What the book was made with.
+    pub making: Making,
+    /// How it reckons A.
+    pub retention: Retention,
     pub highest: u32,
     /// The periods in the book; the oldest has the lowest number.
     pub periods: BTreeMap<u32, Period>,
@@ -120,12 +126,22 @@ pub fn cents_and_tier(entry: &Entry) -> (u128, usize) {
 }
 
 impl Book {
-    /// The book for n participants, and 0 or 4.
-    pub fn make(n: u64) -> (Book, u8) {
-        let stands = (1..=MOST_PARTICIPANTS).contains(&n);
-        let n = if stands { n as usize } else { 0 };
-        let book = Book { n, highest: 0, periods: BTreeMap::new() };
-        (book, if stands { ACCEPTED } else { N_REFUSED })
+    /// The book that is made so, and 0 or the refusal's number. Every refusal hands back the same
+    /// book, which has no participants.
+    pub fn make(making: &Making) -> (Book, u8) {
+        match making.refusal() {
+            None => (Book::with(making.clone()), ACCEPTED),
+            Some(refusal) => (Book::with(Making::alone(0)), refusal),
+        }
+    }
+
+    /// The book of n participants, each a group of its own, with no reserves.
+    pub fn alone(n: u64) -> Book {
+        Book::make(&Making::alone(n)).0
+    }
+
+    pub(crate) fn with(making: Making) -> Book {
+        Book { n: making.n as usize, making, retention, highest: 0, periods: BTreeMap::new() }
     }
 
     /// The cents held in the book.
@@ -217,7 +233,8 @@ impl Book {
                 (nothing, 0)
             }
             NOTICE => {
-                period.stage = Stage::Noticed(month::notice(&period.sums));
+                let retention = (self.retention)(&period.sums, &self.making);
+                period.stage = Stage::Noticed(month::notice_by(&period.sums, retention));
                 (nothing, 0)
             }
             RECEIPT => (period.receive(participant, entry.cents.into()), 0),

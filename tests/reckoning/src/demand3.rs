@@ -4,6 +4,7 @@
 use crate::book::cents_and_tier;
 use crate::codec::{self, Entry, Field, AMOUNT, ENERGY, NOTICE, OPEN, RECEIPT, SETTLE};
 use crate::lines::{self, Line};
+use crate::making::Making;
 use crate::month::{self, Notice, StepOne, Sums, TIERS};
 use crate::refusals::*;
 use std::collections::BTreeMap;
@@ -150,7 +151,11 @@ impl Ledger {
                 let (cents, tier) = cents_and_tier(entry);
                 account.sums.add(participant, entry.side, tier, cents);
             }
-            NOTICE => account.notice = Some(month::notice(&account.sums)),
+            NOTICE => {
+                // A listing's book has groups of one and no reserves.
+                let making = Making::alone(self.n as u64);
+                account.notice = Some(month::notice(&account.sums, &making));
+            }
             RECEIPT => {
                 let late = account.settled.is_some();
                 let received = if late { &mut account.late } else { &mut account.received };

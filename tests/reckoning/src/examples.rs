@@ -5,7 +5,9 @@ use crate::calls;
 use crate::codec::Entry;
 use crate::feeds;
 use crate::listing::listing;
+use crate::making::Making;
 use crate::month::{self, Sums};
+use crate::retention::retention;
 
 fn month_a() -> Sums {
     let mut sums = Sums::new(3);
@@ -38,7 +40,7 @@ fn energy() {
 
 #[test]
 fn month_a_notice() {
-    let notice = month::notice(&month_a());
+    let notice = month::notice(&month_a(), &Making::alone(3));
     assert_eq!(notice.retention, [0, 467, 134]);
     assert_eq!(notice.payable, [600, 0, 334]);
 }
@@ -46,7 +48,7 @@ fn month_a_notice() {
 #[test]
 fn month_a_settlement_and_late_money() {
     let sums = month_a();
-    let notice = month::notice(&sums);
+    let notice = month::notice(&sums, &Making::alone(3));
     let settled = month::settle(&sums, &notice, &[300, 0, 334]);
     assert_eq!(settled.paid, [0, 566, 67]);
     assert_eq!(settled.rounds, 0);
@@ -64,7 +66,7 @@ fn month_a_settlement_and_late_money() {
 #[test]
 fn month_b_settlement() {
     let sums = month_b();
-    let notice = month::notice(&sums);
+    let notice = month::notice(&sums, &Making::alone(3));
     assert_eq!(notice.retention, [0, 300, 100]);
     assert_eq!(notice.payable, [300, 0, 400]);
     let settled = month::settle(&sums, &notice, &[300, 0, 0]);
@@ -85,12 +87,12 @@ fn retention_takes_p_itself() {
     sums.add(0, 0, 0, 10);
     sums.add(0, 1, 5, 4);
     sums.add(1, 1, 5, 6);
-    assert_eq!(month::retention(&sums)[0], 4);
+    assert_eq!(retention(&sums, &Making::alone(2))[0], 4);
 }
 
 #[test]
 fn empty_month_leaves() {
-    let mut book = Book::make(3).0;
+    let mut book = Book::alone(3);
     for entry in [Entry::open(1), Entry::notice(1), Entry::settle(1)] {
         assert_eq!(book.apply(&entry, &mut [9; 3]).number, 0);
     }
@@ -100,7 +102,7 @@ fn empty_month_leaves() {
 
 #[test]
 fn period_0_and_the_thirteenth() {
-    let mut book = Book::make(1).0;
+    let mut book = Book::alone(1);
     assert_eq!(book.apply(&Entry::open(0), &mut [9]).number, 6);
     for period in 1..=12 {
         assert_eq!(book.apply(&Entry::open(period), &mut [9]).number, 0);
@@ -110,17 +112,17 @@ fn period_0_and_the_thirteenth() {
 
 #[test]
 fn n_of_64_stands_and_65_is_4() {
-    assert_eq!(Book::make(64).1, 0);
-    assert_eq!(Book::make(65).1, 4);
-    assert_eq!(Book::make(0).1, 4);
-    let mut book = Book::make(65).0;
+    assert_eq!(Book::make(&Making::alone(64)).1, 0);
+    assert_eq!(Book::make(&Making::alone(65)).1, 4);
+    assert_eq!(Book::make(&Making::alone(0)).1, 4);
+    let mut book = Book::alone(65);
     assert_eq!(book.apply(&Entry::open(1), &mut [9; 64]).number, 4);
     assert_eq!(book.held(), 0);
 }
 
 #[test]
 fn receipt_of_600_stands_and_601_is_13() {
-    let mut book = Book::make(3).0;
+    let mut book = Book::alone(3);
     for entry in calls::month_a_to_notice(7) {
         assert_eq!(book.apply(&entry, &mut [9; 3]).number, 0);
     }
@@ -130,7 +132,7 @@ fn receipt_of_600_stands_and_601_is_13() {
 
 #[test]
 fn tier_5_stands_and_tier_6_is_3() {
-    let mut book = Book::make(3).0;
+    let mut book = Book::alone(3);
     book.apply(&Entry::open(1), &mut [9; 3]);
     assert_eq!(book.apply(&Entry::amount(1, 0, 1, 5, 1), &mut [9; 3]).number, 0);
     assert_eq!(book.apply(&Entry::amount(1, 0, 1, 6, 1), &mut [9; 3]).number, 3);
@@ -138,7 +140,7 @@ fn tier_5_stands_and_tier_6_is_3() {
 
 #[test]
 fn a_side_at_its_bound_stands_and_a_cent_more_is_11() {
-    let mut book = Book::make(3).0;
+    let mut book = Book::alone(3);
     book.apply(&Entry::open(1), &mut [9; 3]);
     let bound = 10_000_000_000_000;
     assert_eq!(book.apply(&Entry::amount(1, 0, 0, 0, bound), &mut [9; 3]).number, 0);

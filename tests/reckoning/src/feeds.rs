@@ -3,6 +3,7 @@
 use crate::aim::{Aim, Manner, Scale};
 use crate::book::Book;
 use crate::codec::{Entry, MOST_CENTS};
+use crate::making::Making;
 use crate::random::Random;
 use crate::rounds;
 
@@ -95,7 +96,7 @@ pub fn feed(seed: u64, name: &str) -> Option<Vec<u8>> {
         return Some(months_of_rounds(&mut random, n, KINDS[place].entries));
     }
     let manner = manner(name, &mut random, n);
-    let mut aim = Aim::new(random, n, manner);
+    let mut aim = Aim::new(random, &Making::alone(n), manner);
     let mut bytes = vec![n as u8];
     for _ in 0..KINDS[place].entries {
         let entry = aim.propose();
@@ -109,7 +110,7 @@ pub fn feed(seed: u64, name: &str) -> Option<Vec<u8>> {
 }
 
 fn months_of_rounds(random: &mut Random, n: u64, months: u64) -> Vec<u8> {
-    let mut book = Book::make(n).0;
+    let mut book = Book::alone(n);
     let mut bytes = vec![n as u8];
     for _ in 0..months {
         bytes.extend(rounds::month(random, &mut book).iter().flat_map(Entry::bytes));

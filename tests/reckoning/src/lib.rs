@@ -1,5 +1,5 @@
-//! A reckoning of 01 on u128, written from the rules alone. It shares no code
-//! and no definitions with the clearing book that is tested by it.
+//! A reckoning of 01, with request a of 02, on u128, written from the rules alone. It
+//! shares no code and no definitions with the clearing book that is tested by it.
 
 pub mod aim;
 pub mod book;
@@ -9,10 +9,12 @@ pub mod compare;
 pub mod damage;
 pub mod demand3;
 pub mod feeds;
+pub mod groupings;
 pub mod handover;
 pub mod judge;
 pub mod lines;
 pub mod listing;
+pub mod making;
 pub mod malformed;
 pub mod month;
 pub mod months;
@@ -20,6 +22,7 @@ pub mod pairs;
 pub mod program;
 pub mod random;
 pub mod refusals;
+pub mod retention;
 pub mod rounds;
 pub mod soak;
 pub mod trial;
@@ -28,6 +31,8 @@ mod wrong;
 
 #[cfg(test)]
 mod examples;
+#[cfg(test)]
+mod examples_of_groups;
 #[cfg(test)]
 mod tests_of_book;
 #[cfg(test)]

@@ -82,7 +82,7 @@ pub fn list(input: impl Read, out: &mut impl Write) -> io::Result<()> {
     let Some(n) = feed.n()? else {
         return Ok(());
     };
-    let mut book = Book::make(n.into()).0;
+    let mut book = Book::alone(n.into());
     let mut number = 0;
     while let Some(found) = feed.next()? {
         number += 1;

@@ -1,6 +1,8 @@
 //! Random months given as rows, with all that 01 reckons from them, for a
 //! comparison with the engine's functions.
 
+use crate::groupings;
+use crate::making::Making;
 use crate::month::{self, Notice, Sums, TIERS};
 use crate::random::Random;
 use crate::rounds;
@@ -22,6 +24,8 @@ pub struct Late {
 #[derive(Clone, Debug)]
 pub struct Month {
     pub n: usize,
+    /// What the month's book is made with.
+    pub making: Making,
     pub sums: Sums,
     pub retention: Vec<u128>,
     pub payable: Vec<u128>,
@@ -42,6 +46,14 @@ pub struct Month {
     pub rounds: u64,
     pub held: u128,
     pub late: Vec<Late>,
+}
+
+impl Month {
+    /// Whether groups of one and no reserves would give another payable row.
+    pub fn has_other_row(&self) -> bool {
+        let alone = Making::alone(self.n as u64);
+        month::notice(&self.sums, &alone).payable != self.payable
+    }
 }
 
 /// The largest amount of a month's rows, so that a side stays within its bound.
@@ -97,12 +109,28 @@ fn any_late(random: &mut Random, month: &Month) -> Vec<Late> {
     late
 }
 
-/// A month of n participants for a seed.
+/// A month for a seed, of n participants that are each a group of their own, with no reserves.
 pub fn month_of(seed: u64, n: usize) -> Month {
+    month_in(seed, Making::alone(n as u64))
+}
+
+/// What a book of n participants is made with for a seed; in one of three cases it is groups of one
+/// and no reserves.
+pub fn any_making(seed: u64, n: usize) -> Making {
+    let mut random = Random::new(seed.wrapping_mul(64).wrapping_add(58));
+    match random.chance(1, 3) {
+        true => Making::alone(n as u64),
+        false => groupings::any_making(&mut random, n as u64),
+    }
+}
+
+/// A month for a seed, in a book that is made so.
+pub fn month_in(seed: u64, making: Making) -> Month {
+    let n = making.n as usize;
     let mut random = Random::new(seed.wrapping_mul(64).wrapping_add(62));
     let of_rounds = n >= 4 && random.chance(1, 5);
     let sums = if of_rounds { rounds::sums(&mut random, n) } else { any_sums(&mut random, n) };
-    let notice = month::notice(&sums);
+    let notice = month::notice(&sums, &making);
     let mut received = any_receipts(&mut random, &notice);
     if of_rounds {
         received.clone_from(&notice.payable);
@@ -112,6 +140,7 @@ pub fn month_of(seed: u64, n: usize) -> Month {
     let total_arrears: u128 = settled.step_one.arrears.iter().sum();
     let mut month = Month {
         n,
+        making,
         available: sums.total(1) - total_arrears,
         held: received.iter().sum::<u128>() - settled.paid.iter().sum::<u128>(),
         retention: notice.retention,
@@ -138,7 +167,7 @@ pub fn month(seed: u64) -> Month {
     let mut random = Random::new(!seed);
     let any = random.between(1, 64) as usize;
     let n = random.pick(&[1, 2, 3, 4, 5, 6, 63, 64, any, any]);
-    month_of(seed, n)
+    month_in(seed, any_making(seed, n))
 }
 
 #[cfg(test)]

@@ -119,8 +119,8 @@ mod tests {
         for seed in 0..200 {
             let mut random = Random::new(seed);
             let n = random.between(4, 64);
-            let mut aimed = Book::make(n).0;
-            let mut book = Book::make(n).0;
+            let mut aimed = Book::alone(n);
+            let mut book = Book::alone(n);
             for entry in month(&mut random, &mut aimed) {
                 let answer = book.apply(&entry, &mut [0; 64]);
                 assert_eq!(answer.number, 0, "seed {seed}: {entry:?}");

@@ -3,11 +3,12 @@
 use crate::book::Book;
 use crate::calls;
 use crate::codec::{Entry, MOST_CENTS};
+use crate::making::{Making, MOST_RESERVE};
 
 /// A book of three with period 2 settled with arrears of payer 0, 3 after its
 /// notice, and 4 before it.
 fn scene() -> Book {
-    let mut book = Book::make(3).0;
+    let mut book = Book::alone(3);
     let mut entries = calls::month_a_to_settle(2);
     entries.extend(calls::month_a_to_notice(3));
     entries.push(Entry::open(4));
@@ -84,7 +85,7 @@ fn acceptance_sets_the_first_n_words_only() {
 
 #[test]
 fn a_period_that_left_makes_room_but_cannot_come_back() {
-    let mut book = Book::make(1).0;
+    let mut book = Book::alone(1);
     for period in 1..=12 {
         book.apply(&Entry::open(period), &mut [9]);
     }
@@ -98,7 +99,7 @@ fn a_period_that_left_makes_room_but_cannot_come_back() {
 
 #[test]
 fn a_month_with_one_round_says_so() {
-    let mut book = Book::make(3).0;
+    let mut book = Book::alone(3);
     let entries = [
         Entry::open(1),
         Entry::amount(1, 0, 0, 0, 300),
@@ -116,4 +117,44 @@ fn a_month_with_one_round_says_so() {
     assert_eq!((answer.number, answer.rounds), (0, 1));
     assert_eq!(words, [0, 300, 0]);
     assert_eq!(book.held(), 0);
+}
+
+/// Whether n, a group number below n and a reserve are outside their values, and the answer.
+#[test]
+fn a_making_is_refused_with_4_before_3() {
+    let rows = [
+        (false, false, false, 0),
+        (false, false, true, 3),
+        (false, true, false, 3),
+        (false, true, true, 3),
+        (true, false, false, 4),
+        (true, false, true, 4),
+        (true, true, false, 4),
+        (true, true, true, 4),
+    ];
+    for (bad_n, bad_group, bad_reserve, number) in rows {
+        let mut making = Making::alone(if bad_n { 65 } else { 3 });
+        making.groups[2] = if bad_group { 64 } else { 63 };
+        making.groups[3] = 64;
+        making.reserves[63] = MOST_RESERVE + u64::from(bad_reserve);
+        assert_eq!(Book::make(&making).1, number, "{bad_n} {bad_group} {bad_reserve}");
+    }
+}
+
+/// Whatever it was refused with, the book is the same and answers 4 to every entry.
+#[test]
+fn a_refused_book_is_that_of_refusal_4() {
+    let mut group = Making::alone(3);
+    group.groups[0] = 64;
+    let mut reserve = Making::alone(3);
+    reserve.reserves[63] = MOST_RESERVE + 1;
+    for making in [Making::alone(0), Making::alone(u64::MAX), group, reserve] {
+        let mut book = Book::make(&making).0;
+        assert_eq!(format!("{book:?}"), format!("{:?}", Book::alone(65)));
+        assert_eq!(book.held(), 0);
+        let entries = [Entry::open(1), Entry::receipt(1, 64, 0), Entry::settle(9)];
+        for (entry, words) in entries.into_iter().flat_map(|entry| [(entry, 0), (entry, 64)]) {
+            assert_eq!(refused(&mut book, entry, words), 4);
+        }
+    }
 }

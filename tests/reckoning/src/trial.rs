@@ -2,6 +2,7 @@
 
 use crate::book::Book;
 use crate::codec::{self, Entry, Field};
+use crate::making::Making;
 use crate::refusals::ACCEPTED;
 use std::io::{self, Read, Write};
 
@@ -50,7 +51,7 @@ fn with_numbers<T: ToString>(mut line: String, numbers: impl IntoIterator<Item =
 }
 
 fn call_book(input: &mut impl Read, book: &mut Book) -> Option<String> {
-    let (made, answer) = Book::make(take(input, 8)?);
+    let (made, answer) = Book::make(&Making::alone(take(input, 8)?));
     *book = made;
     Some(format!("book {answer}"))
 }
@@ -99,7 +100,7 @@ fn call(input: &mut impl Read, book: &mut Book) -> Option<String> {
 
 /// Prints a line for each call.
 pub fn run(mut input: impl Read, out: &mut impl Write) -> io::Result<()> {
-    let mut book = Book::make(0).0;
+    let mut book = Book::alone(0);
     while let Some(line) = call(&mut input, &mut book) {
         writeln!(out, "{line}")?;
     }

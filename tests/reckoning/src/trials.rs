@@ -4,6 +4,7 @@ use crate::aim::{Aim, Manner, Scale};
 use crate::book::Book;
 use crate::calls;
 use crate::codec::{self, Entry, Field, MOST_CENTS, MOST_PRICE, MOST_QUANTITY};
+use crate::making::Making;
 use crate::random::Random;
 use crate::rounds;
 use crate::trial::CALL_FIELDS;
@@ -36,7 +37,7 @@ fn any_manner(random: &mut Random, n: u64) -> Manner {
 fn new_book(random: Random, n: u64) -> Aim {
     let mut random = random;
     let manner = any_manner(&mut random, n);
-    Aim::new(random, n, manner)
+    Aim::new(random, &Making::alone(n), manner)
 }
 
 /// The calls of the trial for a seed.
@@ -77,7 +78,7 @@ pub fn trial(seed: u64) -> Vec<u8> {
 pub fn trial_of_rounds(seed: u64) -> Vec<u8> {
     let mut random = Random::new(seed.wrapping_mul(64).wrapping_add(61));
     let n = random.pick(&[4, 5, 6, 8, 12, 16, 24, 63, 64]);
-    let mut book = Book::make(n).0;
+    let mut book = Book::alone(n);
     let mut bytes = calls::book(n);
     for _ in 0..3 {
         for entry in rounds::month(&mut random, &mut book) {

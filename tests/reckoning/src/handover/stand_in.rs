@@ -54,7 +54,7 @@ impl<W: Write> StandIn<W> {
     fn entries(&mut self) -> Vec<u8> {
         let (mut text, mut place) = (Vec::new(), 0);
         if self.book.is_none() {
-            self.book = self.part.first().map(|&n| Book::make(n.into()).0);
+            self.book = self.part.first().map(|&n| Book::alone(n.into()));
             place = 1;
         }
         let book = self.book.as_mut().expect("n was read");

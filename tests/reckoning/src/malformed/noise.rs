@@ -2,6 +2,7 @@
 
 use crate::aim::{Aim, Manner, Scale};
 use crate::codec::{self, Entry, Field, MOST_CENTS, MOST_PRICE, MOST_QUANTITY, OPEN, SETTLE};
+use crate::making::Making;
 use crate::random::Random;
 
 const FLAVOURS: u64 = 4;
@@ -78,7 +79,7 @@ fn changed(random: &mut Random, n: u8) -> Vec<u8> {
     let scale = random.pick(&[Scale::Few, Scale::Hundreds, Scale::Millions, Scale::Bound]);
     let periods = random.pick(&[1, 2, 12]);
     let manner = Manner { scale, wrong: 5, periods, amounts: 4, step: 2 };
-    let mut aim = Aim::new(random.clone(), standing, manner);
+    let mut aim = Aim::new(random.clone(), &Making::alone(standing), manner);
     let mut feed = vec![if random.chance(1, 4) { n } else { standing as u8 }];
     for _ in 0..random.between(1, 60) {
         let entry = aim.propose();

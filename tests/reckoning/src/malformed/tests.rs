@@ -19,7 +19,7 @@ fn of_noise(run: impl Fn(&[u8]) -> Result<Vec<u8>, String> + Sync) -> Totals {
 #[test]
 fn each_act_is_accepted_after_the_scene_alone_and_in_order() {
     for n in bytes::EVERY_N {
-        let mut book = Book::make(n.into()).0;
+        let mut book = Book::alone(n.into());
         for entry in bytes::scene() {
             assert_eq!(book.apply(&entry, &mut [0; 64]).number, 0, "{entry:?}");
         }

@@ -5,6 +5,7 @@ use crate::aim::{Aim, Manner, Scale};
 use crate::book::{Stage, MOST_PERIODS};
 use crate::codec::{Entry, OPEN, RECEIPT, SETTLE};
 use crate::demand3::Count;
+use crate::making::Making;
 use crate::random::Random;
 use crate::refusals::ACCEPTED;
 use std::collections::BTreeMap;
@@ -66,7 +67,7 @@ impl Rotation {
     pub fn new(plan: Plan, seed: u64) -> Rotation {
         let manner =
             Manner { scale: Scale::Few, wrong: 0, periods: MOST_PERIODS, amounts: 0, step: 3 };
-        let aim = Aim::new(Random::new(seed), plan.n.into(), manner);
+        let aim = Aim::new(Random::new(seed), &Making::alone(plan.n.into()), manner);
         Rotation { plan, reach: Reach::default(), aim, opened_after: BTreeMap::new() }
     }
 
