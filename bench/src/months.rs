@@ -3,11 +3,13 @@
 use crate::batches::{timed, Times};
 use crate::library;
 use crate::slices::{self, Rest, PLACES};
+use reckoning::groupings::{self, Reserves, Shape};
 use reckoning::month::{self, Notice, Settlement};
 use reckoning::months::{self, Month};
+use reckoning::random::Random;
 use std::hint::black_box;
 
-/// Months in which rounds run and money comes late, of as many participants as a book takes.
+/// Months of as many participants as a book takes.
 const MONTHS: usize = 1_000;
 /// Months of a batch, which is timed as a whole.
 const BATCH: usize = 10;
@@ -18,6 +20,8 @@ const PASSES: usize = 7;
 struct Lent {
     by: Vec<u64>,
     to: Vec<u64>,
+    groups: Vec<u64>,
+    reserves: Vec<u64>,
     received: Vec<u64>,
     claims: Vec<u64>,
     paid: Vec<u64>,
@@ -29,6 +33,8 @@ fn lent(month: &Month) -> Lent {
     Lent {
         by: slices::row(&month.sums.by, Rest::Zero),
         to: slices::tiers(&month.sums, Rest::Zero),
+        groups: slices::groups(&month.making, Rest::Zero),
+        reserves: slices::reserves(&month.making, Rest::Zero),
         received: slices::row(&month.received, Rest::Zero),
         claims: slices::row(&month.claim, Rest::Zero),
         paid: slices::row(&month.paid, Rest::Zero),
@@ -39,14 +45,16 @@ fn lent(month: &Month) -> Lent {
 
 impl Lent {
     fn notice(&mut self) -> bool {
+        let given = [&self.by[..], &self.to, &self.groups, &self.reserves];
         let [a, b, _] = &mut self.out;
-        library::notice(&self.by, &self.to, PLACES, [a, b])
+        library::notice(given, PLACES, [a, b])
     }
 
     /// The export takes no payable row, and reckons the notice too.
     fn settle(&mut self) -> u64 {
+        let given = [&self.by[..], &self.to, &self.groups, &self.reserves];
         let [a, b, c] = &mut self.out;
-        library::settle(&self.by, &self.to, &self.received, PLACES, [a, b, c])
+        library::settle(given, &self.received, PLACES, [a, b, c])
     }
 
     fn late(&mut self) -> bool {
@@ -107,13 +115,29 @@ fn compare<O, T>(
     times.print(name, BATCH);
 }
 
-pub fn measure() {
-    let with_rounds = |month: &Month| month.rounds > 0 && !month.late.is_empty();
-    let months: Vec<Month> =
-        (0..).map(|seed| months::month_of(seed, PLACES)).filter(with_rounds).take(MONTHS).collect();
+/// A month of groups of random sizes, each with a reserve of any size.
+fn month_in_groups(seed: u64) -> Month {
+    let (mut random, n) = (Random::new(seed), PLACES as u64);
+    let making = groupings::making(&mut random, n, Shape::Sizes, Reserves::Mixed);
+    months::month_in(seed, making)
+}
+
+/// The first months that fit, as both take them; what ours comes to in each is asserted.
+fn checked(month: impl Fn(u64) -> Month, fits: impl Fn(&Month) -> bool) -> (Vec<Month>, Vec<Lent>) {
+    let months: Vec<Month> = (0..).map(month).filter(fits).take(MONTHS).collect();
     let mut rows: Vec<Lent> = months.iter().map(lent).collect();
     rows.iter_mut().zip(&months).for_each(|(row, month)| row.check(month));
+    (months, rows)
+}
+
+pub fn measure() {
+    let comes_late = |month: &Month| !month.late.is_empty();
+    let with_rounds = |month: &Month| month.rounds > 0 && comes_late(month);
+    let (months, mut rows) = checked(|seed| months::month_of(seed, PLACES), with_rounds);
     compare("notice", &months, &mut rows, Lent::notice, notice);
     compare("notice and settlement with rounds", &months, &mut rows, Lent::settle, settle);
     compare("late receipt", &months, &mut rows, Lent::late, late);
+    let (months, mut rows) = checked(month_in_groups, comes_late);
+    let name = "notice, groups of random sizes and reserves";
+    compare(name, &months, &mut rows, Lent::notice, notice);
 }

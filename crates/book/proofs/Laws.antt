@@ -6,6 +6,8 @@ pub use Rattle.book.proofs.layouts.Outcomes.{read-one-to-one, write-one
 -- no kind passes by the checks; every book that is handed back is valid; refusals; rounds
 pub use Rattle.book.proofs.rules.KindLaws.{every-kind}
 pub use Rattle.book.proofs.rules.ValidLaws.{stays-valid, refusal-changes-nothing, rounds-of-settlements}
+-- what a book is made with
+pub use Rattle.book.proofs.rules.MakingLaws.{refused-book, same-books, separate-books}
 -- demand 3, of entries one after the other and of block runs among them
 pub use Rattle.book.proofs.history.Demand3.{demand3}
 pub use Rattle.book.proofs.runs.BlockRuns.{block-runs}

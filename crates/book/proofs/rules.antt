@@ -5,6 +5,7 @@ pub mod CellLaws
 pub mod ListLaws
 pub mod Passing
 pub mod StepLaws
+pub mod MakingLaws
 pub mod WordLaws
 pub mod ChangeLaws
 pub mod SettlementLaws

@@ -63,7 +63,16 @@ pub fn run(first: Book, bytes: &[u8], from: usize, words: &mut [u64], lines: &mu
             }
             Way::Named { j, entry, next } => {
                 let p = b.periods[j];
-                let r = apply_to_period(p, b.n, entry, is_barred(b, entry), b.held, words);
+                let grouping = b.grouping;
+                let r = apply_to_period(
+                    p,
+                    b.n,
+                    grouping,
+                    entry,
+                    is_barred(b, entry),
+                    b.held,
+                    words,
+                );
                 let q = r.period;
                 let answer = r.answer;
                 put_line(lines, wrote, number(answer), r.paid, r.held);

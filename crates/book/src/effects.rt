@@ -10,6 +10,7 @@ use crate::kinds::receipt_cents;
 use crate::refusals::period_answer;
 use exact::put_cells;
 use exact::total;
+use settlement::Grouping;
 
 // The answer, the rounds of a settlement, the period and the cents held afterwards, and the cents paid.
 pub struct Effect {
@@ -20,18 +21,19 @@ pub struct Effect {
     pub paid: u64,
 }
 
-// Applies an entry to the period that it names; `barred` is whether another period refuses a receipt (14), `held` what
-// the book holds.
+// Applies an entry to the period that it names, in a book of these groups; `barred` is whether another period refuses a
+// receipt (14), `held` what the book holds.
 pub fn apply_to_period(
     p: Period,
     n: usize,
+    grouping: Grouping,
     e: Entry,
     barred: bool,
     held: u64,
     words: &mut [u64],
 ) -> Effect
-    requires { ⌜ Affects n e p held (now words) ⌝ }
-    ensures { λ r. ⌜ effectOf r (now (words .exit)) ≡ effect n e barred p held (now (words .entry)) ⌝ }
+    requires { ⌜ Affects n grouping e p held (now words) ⌝ }
+    ensures { λ r. ⌜ effectOf r (now (words .exit)) ≡ effect n grouping e barred p held (now (words .entry)) ⌝ }
 {
     let answer = period_answer(p, n, e, barred);
     if !is_accepted(answer) {
@@ -43,7 +45,7 @@ pub fn apply_to_period(
             paid: 0,
         };
     }
-    let c = change_period(p, n, e);
+    let c = change_period(p, n, grouping, e);
     let pays = c.pays;
     put_cells(words, n, pays);
     let q = c.period;

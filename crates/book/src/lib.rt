@@ -1,5 +1,6 @@
 // The clearing book: periods and entries.
 use exact::Row;
+use settlement::Grouping;
 use settlement::TierCells;
 
 mod allowed;
@@ -12,6 +13,7 @@ mod feed;
 mod fields;
 mod kinds;
 mod lines;
+mod makings;
 mod periods;
 mod places;
 mod postings;
@@ -31,9 +33,11 @@ pub use feed::feed_at;
 pub use feed::next_entry;
 pub use feed::read_next;
 pub use lines::LINE;
-pub use places::Made;
+pub use makings::Made;
+pub use makings::Making;
+pub use makings::new;
+pub use makings::separate;
 pub use places::held;
-pub use places::new;
 pub use reader::Reading;
 pub use steps::Applied;
 pub use steps::apply;
@@ -67,10 +71,11 @@ pub struct Period {
     arrears: Row,
 }
 
-// A book of n participants: the highest period ever opened, the cents held, and its periods in the first `count`
-// places, oldest first.
+// A book of n participants: their groups and reserves, the highest period ever opened, the cents held, and its periods in
+// the first `count` places, oldest first.
 pub struct Book {
     n: usize,
+    grouping: Grouping,
     highest: u32,
     count: usize,
     held: u64,

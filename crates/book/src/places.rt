@@ -1,64 +1,16 @@
-// The places of a book: made, searched, filled and freed.
+// The places of a book: searched, filled and freed.
 ghost use mathlib.Core.Path.{_≡_};
 ghost use Prim.Native.Nat.{_<_, min};
 ghost use mathlib.Core.List.{[], _∷_};
 ghost use lib.ListN.{length};
 ghost use Rattle.exact.specs.Rows.{places};
-ghost use Rattle.book.specs.rules.Answers.{numberOf};
-ghost use Rattle.book.specs.rules.State.{view, pack, made, find, heldIn, earlierArrears, removed, added, centsHeld, mostPeriods};
+ghost use Rattle.book.specs.rules.State.{view, pack, find, heldIn, earlierArrears, removed, added, centsHeld, mostPeriods};
 ghost use Rattle.book.specs.rules.Valid.{Valid};
 use crate::Book;
 use crate::PERIODS;
 use crate::Period;
-use crate::answers::Answer;
 use crate::periods::fresh_period;
 use crate::periods::has_arrears_before;
-use exact::PLACES;
-
-// A book that was made, or refused.
-pub struct Made {
-    pub answer: Answer,
-    pub book: Book,
-}
-
-// A book without periods.
-fn empty_book(n: usize) -> Book
-    ensures { λ r. ⌜ r ≡ pack (record { n = n; highest = 0; periods = [] }) ⌝ }
-{
-    let free = fresh_period(0);
-    Book {
-        n: n,
-        highest: 0,
-        count: 0,
-        held: 0,
-        periods: [free; PERIODS],
-    }
-}
-
-// A book for n participants, or one of none where n is refused.
-pub fn new(n: usize) -> Made
-    ensures { λ r. ⌜ (numberOf (r .answer) ≡ made (record { n = n }) .answer) × (r .book ≡ pack (made (record { n = n }) .state)) ⌝ }
-{
-    if n == 0 {
-        let b = empty_book(0);
-        return Made {
-            answer: Answer::NoParticipants,
-            book: b,
-        };
-    }
-    if PLACES < n {
-        let b = empty_book(0);
-        return Made {
-            answer: Answer::NoParticipants,
-            book: b,
-        };
-    }
-    let b = empty_book(n);
-    Made {
-        answer: Answer::Accepted,
-        book: b,
-    }
-}
 
 // The cents that the book holds.
 pub fn held(b: Book) -> u64
@@ -122,8 +74,10 @@ pub fn without_period(b: Book, j: usize, held: u64) -> Book
     }
     let blank = fresh_period(0);
     ps[last] = blank;
+    let grouping = b.grouping;
     Book {
         n: b.n,
+        grouping: grouping,
         highest: b.highest,
         count: last,
         held: held,

@@ -101,7 +101,8 @@ fn change_named(mut b: Book, e: Entry, words: &mut [u64]) -> Applied
         return refused(Answer::NotInBook, b);
     }
     let p = b.periods[j];
-    let r = apply_to_period(p, b.n, e, is_barred(b, e), b.held, words);
+    let grouping = b.grouping;
+    let r = apply_to_period(p, b.n, grouping, e, is_barred(b, e), b.held, words);
     let q = r.period;
     let answer = r.answer;
     if is_leaving(q, b.n) {

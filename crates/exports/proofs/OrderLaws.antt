@@ -12,7 +12,7 @@ use Rattle.exact.specs.Rows.{places, at, sum}
 use Rattle.exact.proofs.Cases.{le-or-lt, eq-or-ne}
 use Rattle.settlement.specs.Month.{tiers, sideLimit, Bounded}
 use Rattle.exports.specs.Slices.{tierPlaces, front, rowOf, owingOf, monthOf}
-use Rattle.exports.specs.Orders.{TiersSound, Sound, allOf, owingInOrder, inOrder, receivedInOrder, lateMoneyInOrder}
+use Rattle.exports.specs.Orders.{TiersSound, Sound, GroupsSound, allOf, owingInOrder, groupsInOrder, inOrder, receivedInOrder, lateMoneyInOrder}
 use Rattle.exports.proofs.SliceLaws.{front-sum, flat-sum}
 use Rattle.exports.proofs.EachLaws.{both-true}
 
@@ -41,22 +41,32 @@ tiers-fitting n to room h =
       roomy = leb-true _ _ (a .0);
     }
 
-pub fitting : (n : ℕ) (by to : List ℕ) (room : ℕ) → inOrder n by to room ≡ true → Fitting (Sound n by to) room
-unfolding inOrder
-fitting n by to room h =
+groups-sound : (n : ℕ) (groups reserves : List ℕ) → groupsInOrder n groups reserves ≡ true → GroupsSound n groups reserves
+unfolding groupsInOrder
+groups-sound n groups reserves h =
     let a = all-first _ _ h in
     let b = all-first _ _ (a .1) in
+    record { groups-long = leb-true _ _ (a .0); reserves-long = leb-true _ _ (b .0); grouped = all-first _ _ (b .1) .0 }
+
+pub fitting : (n : ℕ) (by to groups reserves : List ℕ) (room : ℕ) → inOrder n by to groups reserves room ≡ true
+    → Fitting (Sound n by to × GroupsSound n groups reserves) room
+unfolding inOrder
+fitting n by to groups reserves room h =
+    let a = all-first _ _ h in
+    let b = all-first _ _ (a .1) in
+    let d = all-first _ _ (b .1) in
     let t = tiers-fitting n to room (a .0) in
-    let e : sum (rowOf by) n ≡ sum (owingOf to) n = eqb-true _ _ (all-first _ _ (b .1) .0) in
+    let e : sum (rowOf by) n ≡ sum (owingOf to) n = eqb-true _ _ (d .0) in
     record {
-      sound = record { to-side = t .sound; long = leb-true _ _ (b .0); total = omega (arith, e, t .sound .total) };
+      sound = (record { to-side = t .sound; long = leb-true _ _ (b .0); total = omega (arith, e, t .sound .total) }, groups-sound n groups reserves (all-first _ _ (d .1) .0));
       roomy = t .roomy;
     }
 
-pub received-fitting : (n : ℕ) (by to received : List ℕ) (room : ℕ) → receivedInOrder n by to received room ≡ true
-    → Fitting (Sound n by to) (min (length received) room)
+pub received-fitting : (n : ℕ) (by to groups reserves received : List ℕ) (room : ℕ)
+    → receivedInOrder n by to groups reserves received room ≡ true
+    → Fitting (Sound n by to × GroupsSound n groups reserves) (min (length received) room)
 unfolding receivedInOrder
-received-fitting n by to received room h = fitting n by to _ (all-first _ _ h .0)
+received-fitting n by to groups reserves received room h = fitting n by to groups reserves _ (all-first _ _ h .0)
 
 pub late-fitting : (n : ℕ) (to claims paid : List ℕ) (money room : ℕ) → lateMoneyInOrder n to claims paid money room ≡ true
     → Fitting (TiersSound n to) (min (length claims) (min (length paid) room))
@@ -83,7 +93,7 @@ cut-eqb x y limit l =
 owing-sum : (n : ℕ) (to : List ℕ) → n ≤ places → sum (at to) (tiers * n) ≡ sum (owingOf to) n
 owing-sum n to f = sym (front-sum tierPlaces to (tiers * n) (omega arith)) ∙ flat-sum (front tierPlaces to) n
 
--- the last tests
+-- the last test of the tiers, and that of the two sides' totals
 pub tiers-tested : (n : ℕ) (to : List ℕ) (room : ℕ) → places ≤ room → 1 ≤ n → n ≤ places → tierPlaces ≤ length to
     → leb (min (sum (at to) (tiers * n)) (sideLimit + 1)) sideLimit ≡ owingInOrder n to room
 unfolding allOf owingInOrder
@@ -91,10 +101,7 @@ tiers-tested n to room r s f l =
     simp (le-leb places room r, le-leb 1 n s, le-leb n places f, le-leb tierPlaces (length to) l)
     (cut-leb (sum (at to) (tiers * n)) sideLimit ∙ ap (λ s. leb s sideLimit) (owing-sum n to f) ∙ last-test _)
 
-pub tested : (n : ℕ) (by to : List ℕ) (room : ℕ) → owingInOrder n to room ≡ true → places ≤ length by
-    → eqb (min (sum (at by) n) (sideLimit + 1)) (min (sum (at to) (tiers * n)) (sideLimit + 1)) ≡ inOrder n by to room
-unfolding allOf inOrder
-tested n by to room t l =
-    let s = tiers-fitting n to room t .sound in
-    simp (t, le-leb places (length by) l)
-    (rw (owing-sum n to (s .few), ← front-sum places by n (s .few)) (cut-eqb _ _ sideLimit (s .total) ∙ last-test _))
+pub totals-tested : (n : ℕ) (by to : List ℕ) → TiersSound n to
+    → eqb (min (sum (at by) n) (sideLimit + 1)) (min (sum (at to) (tiers * n)) (sideLimit + 1)) ≡ eqb (sum (rowOf by) n) (sum (owingOf to) n)
+totals-tested n by to s =
+    rw (owing-sum n to (s .few), ← front-sum places by n (s .few)) (cut-eqb _ _ sideLimit (s .total))

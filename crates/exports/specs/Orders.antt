@@ -1,13 +1,15 @@
 -- When arguments are in order.
 use Prim.Native.Nat.{ℕ, zero, suc, _-_, _≤_, min}
+use mathlib.Core.Path.{_≡_}
 use mathlib.Core.Bool.{Bool, true, false, cond}
 use mathlib.Core.List.{List, [], _∷_}
 use lib.Dec.{eqb, leb}
 use lib.ListN.{length}
 use Rattle.exact.specs.Rows.{places, sum}
 use Rattle.settlement.specs.Month.{sideLimit}
-use Rattle.settlement.specs.Notice.{retention, payable}
-use Rattle.exports.specs.Slices.{tierPlaces, rowOf, owingOf, monthOf}
+use Rattle.settlement.specs.Notice.{payable}
+use Rattle.settlement.specs.Groups.{groupCount, groupingAllowed}
+use Rattle.exports.specs.Slices.{tierPlaces, rowOf, owingOf, monthOf, groupingOf, retentionOf}
 
 -- the cents owing to n participants by tiers
 pub record TiersSound (n : ℕ) (to : List ℕ) : Type 0 where
@@ -20,6 +22,12 @@ pub record Sound (n : ℕ) (by to : List ℕ) : Type 0 where
   pub to-side : TiersSound n to
   pub long : places ≤ length by
   pub total : sum (rowOf by) n ≤ sideLimit
+
+-- the groups that they are in, and the groups' reserves (02, a)
+pub record GroupsSound (n : ℕ) (groups reserves : List ℕ) : Type 0 where
+  pub groups-long : places ≤ length groups
+  pub reserves-long : groupCount ≤ length reserves
+  pub grouped : groupingAllowed n (groupingOf groups reserves) ≡ true
 
 -- every test is passed
 unfoldable pub allOf : List Bool → Bool
@@ -36,19 +44,33 @@ unfoldable pub owingInOrder : ℕ → List ℕ → ℕ → Bool
 owingInOrder n to room =
     allOf (leb places room ∷ leb 1 n ∷ leb n places ∷ leb tierPlaces (length to) ∷ leb (sum (owingOf to) n) sideLimit ∷ [])
 
--- the two sides' totals are equal (01, Notice), so that both are within the bound
-unfoldable pub inOrder : ℕ → List ℕ → List ℕ → ℕ → Bool
-inOrder n by to room =
-    allOf (owingInOrder n to room ∷ leb places (length by) ∷ eqb (sum (rowOf by) n) (sum (owingOf to) n) ∷ [])
+-- the group numbers of n participants are 0 to 63, and each group's reserve is within its bound (02, a)
+unfoldable pub groupsInOrder : ℕ → (groups reserves : List ℕ) → Bool
+groupsInOrder n groups reserves =
+    allOf (leb places (length groups) ∷ leb groupCount (length reserves) ∷ groupingAllowed n (groupingOf groups reserves) ∷ [])
+
+-- the two sides' totals are equal (01, Notice), so that both are within the bound, and the groups are in order
+unfoldable pub inOrder : ℕ → (by to groups reserves : List ℕ) → ℕ → Bool
+inOrder n by to groups reserves room =
+    allOf
+    (owingInOrder n to room
+    ∷ leb places (length by)
+    ∷ eqb (sum (rowOf by) n) (sum (owingOf to) n)
+    ∷ groupsInOrder n groups reserves
+    ∷ [])
 
 -- nothing received is above what is payable (01, Refused: 13)
-unfoldable pub receivedInOrder : ℕ → (by to received : List ℕ) → ℕ → Bool
-receivedInOrder n by to received room =
-    allOf (inOrder n by to (min (length received) room) ∷ eachAtMost (rowOf received) (payable (monthOf n by to) (retention (monthOf n by to))) n ∷ [])
+unfoldable pub receivedInOrder : ℕ → (by to groups reserves received : List ℕ) → ℕ → Bool
+receivedInOrder n by to groups reserves received room =
+    allOf
+    (inOrder n by to groups reserves (min (length received) room)
+    ∷ eachAtMost (rowOf received) (payable (monthOf n by to) (retentionOf n by to groups reserves)) n
+    ∷ [])
 
 -- for a settlement: with three slices to write
-abbrev pub settlementInOrder : ℕ → (by to received a b c : List ℕ) → Bool
-settlementInOrder n by to received a b c = receivedInOrder n by to received (min (length a) (min (length b) (length c)))
+abbrev pub settlementInOrder : ℕ → (by to groups reserves received a b c : List ℕ) → Bool
+settlementInOrder n by to groups reserves received a b c =
+    receivedInOrder n by to groups reserves received (min (length a) (min (length b) (length c)))
 
 -- claims are within what is owing, payments within claims, and money within the unpaid claims (01, Late money; The list of demand 3)
 unfoldable pub lateMoneyInOrder : ℕ → (to claims paid : List ℕ) → ℕ → ℕ → Bool

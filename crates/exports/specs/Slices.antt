@@ -5,6 +5,8 @@ use mathlib.Core.List.{List}
 use lib.ListN.{take}
 use Rattle.exact.specs.Rows.{places, at, filled}
 use Rattle.settlement.specs.Month.{Month, month, tiers, overTiers, tierAt}
+use Rattle.settlement.specs.Groups.{groupCount, groupRetention}
+use Rattle.settlement.specs.declared.groups.Grouping.{Grouping}
 
 -- as many cells as the tiers of all participants take
 abbrev pub tierPlaces : ℕ
@@ -25,6 +27,14 @@ owingOf to = overTiers (tierAt (front tierPlaces to))
 -- the month in two slices
 abbrev pub monthOf : ℕ → List ℕ → List ℕ → Month
 monthOf n by to = month n (front places by) (front tierPlaces to)
+
+-- the groups of participants and the reserves of groups in two slices (02, a)
+abbrev pub groupingOf : List ℕ → List ℕ → Grouping
+groupingOf groups reserves = record { groups = front places groups; reserves = front groupCount reserves }
+
+-- the retention of the month and the groups in four slices (02, a)
+abbrev pub retentionOf : ℕ → (by to groups reserves : List ℕ) → ℕ → ℕ
+retentionOf n by to groups reserves = groupRetention (monthOf n by to) (groupingOf groups reserves)
 
 -- a slice with an array in its first cells
 unfoldable pub written : List ℕ → List ℕ → List ℕ

@@ -1,9 +1,5 @@
 // C exports: the exact proportion; over slices, notice, scaled amounts, settlement and late money of one month.
-// Arguments are in order where n is 1 to 64, rows have 64 cells or more and tiers 320, the sides' totals are equal and
-// within their bound, nothing received is above what is payable, no claim above what is owing, nothing paid above its
-// claim, and no late money above the unpaid claims. Others are refused: no month of 01 has them, and no rule of it gives
-// their amounts. Claims and payments that pass need not be those of a settlement: that would take the sums owing by and
-// the receipts, which `clearing_late` is not handed.
+// Arguments that no month of the rules has are not in order, and are refused (specs/Orders.antt says which).
 mod months;
 mod orders;
 mod slices;
@@ -55,19 +51,21 @@ pub extern "C" fn clearing_proportion(amount: u64, part: u64, whole: u64) -> u64
 pub extern "C" fn clearing_notice(
     by: &[u64],
     to: &[u64],
+    groups: &[u64],
+    reserves: &[u64],
     n: usize,
     retention: &mut [u64],
     payable: &mut [u64],
 ) -> bool
-    ensures { λ r. ⌜ r ≡ inOrder n (now (by .entry)) (now (to .entry)) (min (length (now (retention .entry))) (length (now (payable .entry)))) ⌝ }
-    ensures { λ r. ⌜ now (retention .exit) ≡ left r (noticeOf n (now (by .entry)) (now (to .entry)) .retention) (now (retention .entry)) ⌝ }
-    ensures { λ r. ⌜ now (payable .exit) ≡ left r (noticeOf n (now (by .entry)) (now (to .entry)) .payable) (now (payable .entry)) ⌝ }
+    ensures { λ r. ⌜ r ≡ inOrder n (now (by .entry)) (now (to .entry)) (now (groups .entry)) (now (reserves .entry)) (min (length (now (retention .entry))) (length (now (payable .entry)))) ⌝ }
+    ensures { λ r. ⌜ now (retention .exit) ≡ left r (noticeOf n (now (by .entry)) (now (to .entry)) (now (groups .entry)) (now (reserves .entry)) .retention) (now (retention .entry)) ⌝ }
+    ensures { λ r. ⌜ now (payable .exit) ≡ left r (noticeOf n (now (by .entry)) (now (to .entry)) (now (groups .entry)) (now (reserves .entry)) .payable) (now (payable .entry)) ⌝ }
 {
     let room = shorter(retention.len(), payable.len());
-    if !in_order(by, to, n, room) {
+    if !in_order(by, to, groups, reserves, n, room) {
         return false;
     }
-    let noticed = notice_of(by, to, n);
+    let noticed = notice_of(by, to, groups, reserves, n);
     let retention_row = noticed.retention;
     let payable_row = noticed.payable;
     put_row(retention, retention_row);
@@ -81,19 +79,21 @@ pub extern "C" fn clearing_notice(
 pub extern "C" fn clearing_scaled(
     by: &[u64],
     to: &[u64],
+    groups: &[u64],
+    reserves: &[u64],
     received: &[u64],
     n: usize,
     revised: &mut [u64],
     above: &mut [u64],
     below: &mut [u64],
 ) -> bool
-    ensures { λ r. ⌜ r ≡ settlementInOrder n (now (by .entry)) (now (to .entry)) (now (received .entry)) (now (revised .entry)) (now (above .entry)) (now (below .entry)) ⌝ }
-    ensures { λ r. ⌜ now (revised .exit) ≡ left r (scaledOf n (now (by .entry)) (now (to .entry)) (now (received .entry)) .revised) (now (revised .entry)) ⌝ }
-    ensures { λ r. ⌜ now (above .exit) ≡ left r (scaledOf n (now (by .entry)) (now (to .entry)) (now (received .entry)) .above) (now (above .entry)) ⌝ }
-    ensures { λ r. ⌜ now (below .exit) ≡ left r (scaledOf n (now (by .entry)) (now (to .entry)) (now (received .entry)) .below) (now (below .entry)) ⌝ }
+    ensures { λ r. ⌜ r ≡ settlementInOrder n (now (by .entry)) (now (to .entry)) (now (groups .entry)) (now (reserves .entry)) (now (received .entry)) (now (revised .entry)) (now (above .entry)) (now (below .entry)) ⌝ }
+    ensures { λ r. ⌜ now (revised .exit) ≡ left r (scaledOf n (now (by .entry)) (now (to .entry)) (now (groups .entry)) (now (reserves .entry)) (now (received .entry)) .revised) (now (revised .entry)) ⌝ }
+    ensures { λ r. ⌜ now (above .exit) ≡ left r (scaledOf n (now (by .entry)) (now (to .entry)) (now (groups .entry)) (now (reserves .entry)) (now (received .entry)) .above) (now (above .entry)) ⌝ }
+    ensures { λ r. ⌜ now (below .exit) ≡ left r (scaledOf n (now (by .entry)) (now (to .entry)) (now (groups .entry)) (now (reserves .entry)) (now (received .entry)) .below) (now (below .entry)) ⌝ }
 {
     let room = shorter(revised.len(), shorter(above.len(), below.len()));
-    let checked = check_receipts(by, to, received, n, room);
+    let checked = check_receipts(by, to, groups, reserves, received, n, room);
     if !checked.passed {
         return false;
     }
@@ -114,19 +114,21 @@ pub extern "C" fn clearing_scaled(
 pub extern "C" fn clearing_settle(
     by: &[u64],
     to: &[u64],
+    groups: &[u64],
+    reserves: &[u64],
     received: &[u64],
     n: usize,
     paid: &mut [u64],
     claims: &mut [u64],
     arrears: &mut [u64],
 ) -> u64
-    ensures { λ r. ⌜ r ≡ cond (settlementInOrder n (now (by .entry)) (now (to .entry)) (now (received .entry)) (now (paid .entry)) (now (claims .entry)) (now (arrears .entry))) (settledOf n (now (by .entry)) (now (to .entry)) (now (received .entry)) .rounds) refused ⌝ }
-    ensures { λ r. ⌜ now (paid .exit) ≡ left (leb r places) (settledOf n (now (by .entry)) (now (to .entry)) (now (received .entry)) .paid) (now (paid .entry)) ⌝ }
-    ensures { λ r. ⌜ now (claims .exit) ≡ left (leb r places) (settledOf n (now (by .entry)) (now (to .entry)) (now (received .entry)) .claims) (now (claims .entry)) ⌝ }
-    ensures { λ r. ⌜ now (arrears .exit) ≡ left (leb r places) (settledOf n (now (by .entry)) (now (to .entry)) (now (received .entry)) .arrears) (now (arrears .entry)) ⌝ }
+    ensures { λ r. ⌜ r ≡ cond (settlementInOrder n (now (by .entry)) (now (to .entry)) (now (groups .entry)) (now (reserves .entry)) (now (received .entry)) (now (paid .entry)) (now (claims .entry)) (now (arrears .entry))) (settledOf n (now (by .entry)) (now (to .entry)) (now (groups .entry)) (now (reserves .entry)) (now (received .entry)) .rounds) refused ⌝ }
+    ensures { λ r. ⌜ now (paid .exit) ≡ left (leb r places) (settledOf n (now (by .entry)) (now (to .entry)) (now (groups .entry)) (now (reserves .entry)) (now (received .entry)) .paid) (now (paid .entry)) ⌝ }
+    ensures { λ r. ⌜ now (claims .exit) ≡ left (leb r places) (settledOf n (now (by .entry)) (now (to .entry)) (now (groups .entry)) (now (reserves .entry)) (now (received .entry)) .claims) (now (claims .entry)) ⌝ }
+    ensures { λ r. ⌜ now (arrears .exit) ≡ left (leb r places) (settledOf n (now (by .entry)) (now (to .entry)) (now (groups .entry)) (now (reserves .entry)) (now (received .entry)) .arrears) (now (arrears .entry)) ⌝ }
 {
     let room = shorter(paid.len(), shorter(claims.len(), arrears.len()));
-    let checked = check_receipts(by, to, received, n, room);
+    let checked = check_receipts(by, to, groups, reserves, received, n, room);
     if !checked.passed {
         return REFUSED;
     }

@@ -1,4 +1,5 @@
-// What settlement reckons of the month in two slices.
+// What settlement reckons of the month in slices.
+use crate::slices::grouping_of;
 use crate::slices::row_of;
 use crate::slices::tier_cells_of;
 use exact::Row;
@@ -14,25 +15,28 @@ ghost use Prim.Native.Nat.{_≤_};
 ghost use lib.ListN.{length};
 ghost use Rattle.exact.specs.Rows.{places, cells};
 ghost use Rattle.settlement.specs.Month.{tierAt};
+ghost use Rattle.settlement.specs.Notice.{Due};
+ghost use Rattle.settlement.specs.Settling.{scaledAmounts, settled};
 ghost use Rattle.settlement.specs.Late.{latePayment};
-ghost use Rattle.exports.specs.Slices.{front, rowOf, tierPlaces};
-ghost use Rattle.exports.specs.Orders.{Sound, TiersSound};
-ghost use Rattle.exports.specs.Answers.{noticeOf, scaledOf, settledOf};
+ghost use Rattle.exports.specs.Slices.{front, rowOf, tierPlaces, monthOf};
+ghost use Rattle.exports.specs.Orders.{Sound, TiersSound, GroupsSound};
+ghost use Rattle.exports.specs.Answers.{noticeOf};
 
-// The notice of the month.
-pub fn notice_of(by: &[u64], to: &[u64], n: usize) -> Noticed
-    requires { ⌜ Sound n (now by) (now to) ⌝ }
-    ensures { λ r. ⌜ r ≡ noticeOf n (now (by .entry)) (now (to .entry)) ⌝ }
+// The notice of the month and the groups.
+pub fn notice_of(by: &[u64], to: &[u64], groups: &[u64], reserves: &[u64], n: usize) -> Noticed
+    requires { ⌜ Sound n (now by) (now to) × GroupsSound n (now groups) (now reserves) ⌝ }
+    ensures { λ r. ⌜ r ≡ noticeOf n (now (by .entry)) (now (to .entry)) (now (groups .entry)) (now (reserves .entry)) ⌝ }
 {
     let by_row = row_of(by);
     let to_cells = tier_cells_of(to);
-    notice(by_row, to_cells, n)
+    let grouping = grouping_of(groups, reserves);
+    notice(by_row, to_cells, grouping, n)
 }
 
-// Steps 1 to 3 of its settlement, from the payable row of its notice.
+// Steps 1 to 3 of the month's settlement, from what is payable.
 pub fn scaled_of(by: &[u64], to: &[u64], payable: Row, received: &[u64], n: usize) -> Scaled
-    requires { ⌜ Sound n (now by) (now to) × (places ≤ length (now received)) × (payable ≡ noticeOf n (now by) (now to) .payable) ⌝ }
-    ensures { λ r. ⌜ r ≡ scaledOf n (now (by .entry)) (now (to .entry)) (now (received .entry)) ⌝ }
+    requires { ⌜ Sound n (now by) (now to) × (places ≤ length (now received)) × Due (monthOf n (now by) (now to)) payable ⌝ }
+    ensures { λ r. ⌜ ((due : Due (monthOf n (now (by .entry)) (now (to .entry))) payable) → r ≡ scaledAmounts (monthOf n (now (by .entry)) (now (to .entry))) (due .retained) (rowOf (now (received .entry)))) ⌝ }
 {
     let by_row = row_of(by);
     let to_cells = tier_cells_of(to);
@@ -40,10 +44,10 @@ pub fn scaled_of(by: &[u64], to: &[u64], payable: Row, received: &[u64], n: usiz
     scale(by_row, to_cells, payable, received_row, n)
 }
 
-// Its settlement, from the same.
+// The whole of it, from the same.
 pub fn settled_of(by: &[u64], to: &[u64], payable: Row, received: &[u64], n: usize) -> Settled
-    requires { ⌜ Sound n (now by) (now to) × (places ≤ length (now received)) × (payable ≡ noticeOf n (now by) (now to) .payable) ⌝ }
-    ensures { λ r. ⌜ r ≡ settledOf n (now (by .entry)) (now (to .entry)) (now (received .entry)) ⌝ }
+    requires { ⌜ Sound n (now by) (now to) × (places ≤ length (now received)) × Due (monthOf n (now by) (now to)) payable ⌝ }
+    ensures { λ r. ⌜ ((due : Due (monthOf n (now (by .entry)) (now (to .entry))) payable) → r ≡ settled (monthOf n (now (by .entry)) (now (to .entry))) (due .retained) (rowOf (now (received .entry)))) ⌝ }
 {
     let by_row = row_of(by);
     let to_cells = tier_cells_of(to);

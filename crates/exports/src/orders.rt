@@ -1,5 +1,6 @@
 // Whether arguments are in order.
 use crate::months::notice_of;
+use crate::slices::grouping_of;
 use crate::slices::row_of;
 use crate::slices::shorter;
 use crate::slices::side_total;
@@ -8,15 +9,17 @@ use exact::PLACES;
 use exact::Row;
 use exact::excesses;
 use exact::total;
+use settlement::GROUPS;
 use settlement::SIDE_LIMIT;
 use settlement::TIERS;
+use settlement::is_grouping_allowed;
 use settlement::over_tiers;
 ghost use mathlib.Core.Path.{_≡_};
 ghost use mathlib.Core.Bool.{true, false};
 ghost use Prim.Native.Nat.{_≤_};
 ghost use Rattle.exact.specs.Division.{Proportional};
 ghost use Rattle.exact.specs.Rows.{places, at};
-ghost use Rattle.exports.specs.Orders.{eachAtMost, owingInOrder, inOrder, receivedInOrder, lateMoneyInOrder};
+ghost use Rattle.exports.specs.Orders.{eachAtMost, owingInOrder, groupsInOrder, inOrder, receivedInOrder, lateMoneyInOrder};
 ghost use Rattle.exports.specs.Answers.{noticeOf};
 
 // Whether n participants and the cents owing to them by tiers are in order, and the shortest slice of a row has room.
@@ -38,9 +41,32 @@ pub fn owing_in_order(to: &[u64], n: usize, room: usize) -> bool
     side_total(to, TIERS * n) <= SIDE_LIMIT
 }
 
-// The same with the cents owing by them, which must come to as much.
-pub fn in_order(by: &[u64], to: &[u64], n: usize, room: usize) -> bool
-    ensures { λ r. ⌜ r ≡ inOrder n (now (by .entry)) (now (to .entry)) room ⌝ }
+// Whether the group numbers of n participants and the reserves of all groups are in order.
+pub fn groups_in_order(groups: &[u64], reserves: &[u64], n: usize) -> bool
+    requires { ⌜ n ≤ places ⌝ }
+    ensures { λ r. ⌜ r ≡ groupsInOrder n (now (groups .entry)) (now (reserves .entry)) ⌝ }
+{
+    if groups.len() < PLACES {
+        return false;
+    }
+    if reserves.len() < GROUPS {
+        return false;
+    }
+    let grouping = grouping_of(groups, reserves);
+    is_grouping_allowed(grouping, n)
+}
+
+// Whether the month is in order: the cents owing to n participants, those owing by them, which must come to as much, and
+// the groups.
+pub fn in_order(
+    by: &[u64],
+    to: &[u64],
+    groups: &[u64],
+    reserves: &[u64],
+    n: usize,
+    room: usize,
+) -> bool
+    ensures { λ r. ⌜ r ≡ inOrder n (now (by .entry)) (now (to .entry)) (now (groups .entry)) (now (reserves .entry)) room ⌝ }
 {
     if !owing_in_order(to, n, room) {
         return false;
@@ -48,7 +74,10 @@ pub fn in_order(by: &[u64], to: &[u64], n: usize, room: usize) -> bool
     if by.len() < PLACES {
         return false;
     }
-    side_total(by, n) == side_total(to, TIERS * n)
+    if side_total(by, n) != side_total(to, TIERS * n) {
+        return false;
+    }
+    groups_in_order(groups, reserves, n)
 }
 
 // Whether each of the first n cells is at most the other row's.
@@ -71,19 +100,27 @@ pub struct Checked {
     pub payable: Row,
 }
 
-// Checks the sums of a month and what was received.
-pub fn check_receipts(by: &[u64], to: &[u64], received: &[u64], n: usize, room: usize) -> Checked
-    ensures { λ r. ⌜ r .passed ≡ receivedInOrder n (now (by .entry)) (now (to .entry)) (now (received .entry)) room ⌝ }
-    ensures { λ r. ⌜ (r .passed ≡ true → r .payable ≡ noticeOf n (now (by .entry)) (now (to .entry)) .payable) ⌝ }
+// Checks the sums of a month, the groups and what was received.
+pub fn check_receipts(
+    by: &[u64],
+    to: &[u64],
+    groups: &[u64],
+    reserves: &[u64],
+    received: &[u64],
+    n: usize,
+    room: usize,
+) -> Checked
+    ensures { λ r. ⌜ r .passed ≡ receivedInOrder n (now (by .entry)) (now (to .entry)) (now (groups .entry)) (now (reserves .entry)) (now (received .entry)) room ⌝ }
+    ensures { λ r. ⌜ (r .passed ≡ true → r .payable ≡ noticeOf n (now (by .entry)) (now (to .entry)) (now (groups .entry)) (now (reserves .entry)) .payable) ⌝ }
 {
-    if !in_order(by, to, n, shorter(received.len(), room)) {
+    if !in_order(by, to, groups, reserves, n, shorter(received.len(), room)) {
         let none = [0u64; PLACES];
         return Checked {
             passed: false,
             payable: none,
         };
     }
-    let noticed = notice_of(by, to, n);
+    let noticed = notice_of(by, to, groups, reserves, n);
     let payable = noticed.payable;
     let received_row = row_of(received);
     let passed = each_at_most(received_row, payable, n);

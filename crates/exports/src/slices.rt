@@ -2,6 +2,7 @@
 use exact::PLACES;
 use exact::Row;
 use exact::put_cells;
+use settlement::Grouping;
 use settlement::SIDE_LIMIT;
 use settlement::TIERS;
 use settlement::TierCells;
@@ -10,7 +11,8 @@ ghost use Prim.Native.Nat.{_+_, _≤_, min};
 ghost use lib.ListN.{length};
 ghost use Rattle.exact.specs.Rows.{places, at, sum};
 ghost use Rattle.settlement.specs.Month.{sideLimit};
-ghost use Rattle.exports.specs.Slices.{tierPlaces, front, written};
+ghost use Rattle.settlement.specs.Groups.{groupCount};
+ghost use Rattle.exports.specs.Slices.{tierPlaces, front, groupingOf, written};
 
 // The smaller of two lengths.
 pub fn shorter(a: usize, b: usize) -> usize
@@ -56,6 +58,19 @@ pub fn tier_cells_of(s: &[u64]) -> TierCells
         out[i] = s[i];
     }
     out
+}
+
+// The group number of each participant and the reserve of each group, from the first 64 cells.
+pub fn grouping_of(groups: &[u64], reserves: &[u64]) -> Grouping
+    requires { ⌜ (places ≤ length (now groups)) × (groupCount ≤ length (now reserves)) ⌝ }
+    ensures { λ r. ⌜ r ≡ groupingOf (now (groups .entry)) (now (reserves .entry)) ⌝ }
+{
+    let groups_row = row_of(groups);
+    let reserves_row = row_of(reserves);
+    Grouping {
+        groups: groups_row,
+        reserves: reserves_row,
+    }
 }
 
 // Puts a row into the first 64 cells.

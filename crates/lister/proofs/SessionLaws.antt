@@ -16,6 +16,7 @@ use Rattle.text.specs.declared.streams.Output as output
 use Rattle.text.specs.declared.streams.Fetched.{Fetched}
 use Rattle.text.proofs.BlockLaws.{kept-front}
 use Rattle.text.proofs.StreamLaws.{more-of, failed-of, fetched-front}
+use Rattle.book.specs.rules.Makings.{separate}
 use Rattle.book.specs.rules.Valid.{Valid}
 use Rattle.book.specs.declared.Book.{Book}
 use Rattle.book.proofs.Laws.{stays-valid, short-few}
@@ -63,7 +64,7 @@ loop-begins {first} {read} {o} {feed} {words} z q g = subst (λ (x : Standing). 
       (subst (λ (b : Book). Stands (getD feed 0 0 ∷ drop 1 s) header (record { number = 1; book = b; left = drop 1 s })) (sym (g .book))
       (stands-first (getD feed 0 0) (drop 1 s)));
   ready = record {
-    valid = subst Valid (sym (g .book)) (stays-valid .first (record { n = getD feed 0 0 }));
+    valid = subst Valid (sym (g .book)) (stays-valid .first (separate (getD feed 0 0)));
     within = omega (arith, size, g .some);
     agree = record { size = ap length (g .as-lent); rest = ap (drop (first .n)) (g .as-lent) };
   };

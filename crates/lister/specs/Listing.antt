@@ -4,7 +4,8 @@ use mathlib.Core.List.{List, [], _∷_, _++_}
 use lib.ListN.{length, drop, replicate}
 use Rattle.exact.specs.Rows.{places}
 use Rattle.book.specs.layouts.Reading.{reading, onEntry}
-use Rattle.book.specs.rules.State.{pack, made, centsHeld}
+use Rattle.book.specs.rules.State.{pack, centsHeld}
+use Rattle.book.specs.rules.Makings.{made, separate}
 use Rattle.book.specs.rules.Step.{Reply, reply, paidBy}
 use Rattle.book.specs.declared.Book.{Book}
 use Rattle.lister.specs.Lines.{header, entryLine, payLines}
@@ -35,9 +36,9 @@ entriesFrom (suc most) number b s =
 unfoldable pub listingFrom : ℕ → Book → List ℕ → List ℕ
 listingFrom number b s = entriesFrom (length s) number b s
 
--- the book that is made for n participants; of a refused n it has none
+-- the book that is made for n participants, each in a group of its own, without reserves; of a refused n it has none (02, a)
 abbrev pub bookFor : ℕ → Book
-bookFor n = pack (made (record { n = n }) .state)
+bookFor n = pack (made (separate n) .state)
 
 -- the header for every input; n is its first byte, and entries are what follows
 unfoldable pub listing : List ℕ → List ℕ

@@ -1,7 +1,7 @@
 // The input, block after block. No contract can say what the C library delivers or writes, so that the bytes which were
 // read are those listed, and those listed the ones written, is to be read here.
 ghost use mathlib.Core.Path.{_≡_};
-ghost use Rattle.lister.specs.Listing.{lent};
+ghost use Rattle.lister.specs.Listing.{bookFor, lent};
 ghost use Rattle.lister.specs.Sessions.{Session};
 ghost use Rattle.lister.specs.inner.Blocks.{Begun};
 use crate::blocks::Next;
@@ -43,6 +43,15 @@ fn size(n: u8) -> usize
     ensures { λ r. ⌜ r ≡ n ⌝ }
 {
     n as usize
+}
+
+// The book of a listing: each participant is in a group of its own, and no group has a reserve.
+fn first_book(n: u8) -> Book
+    ensures { λ r. ⌜ r ≡ bookFor n ⌝ }
+{
+    let m = book::separate(size(n));
+    let made = book::new(m);
+    made.book
 }
 
 // Lists block after block. Each turn lists, writes out what was listed and, where the bytes left are short, moves them to the
@@ -109,8 +118,7 @@ fn list_input(feed: &mut Block, out: &mut Out, words: &mut Words, lines: &mut Li
         let input = read.input;
         return ended_by(why_ended(input), 0, input, output);
     }
-    let made = book::new(size(feed[0]));
-    let first = made.book;
+    let first = first_book(feed[0]);
     list_blocks(first, read, output, feed, out, words, lines)
 }
 

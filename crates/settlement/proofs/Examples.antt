@@ -1,16 +1,18 @@
--- The ten starred examples come out by computation.
+-- The ten starred examples, and those of retention over groups, come out by computation.
 use mathlib.Core.Path.{refl}
 use Rattle.exact.specs.Rows.{sum, largest, table}
 use Rattle.exact.specs.Division.{ceilDiv}
 use Rattle.exact.specs.Energy.{energyCents}
 use Rattle.settlement.specs.Month.{overTiers}
 use Rattle.settlement.specs.Notice.{gives, shortfall, othersTier5, retention, payable, fullClaim}
+use Rattle.settlement.specs.Groups.{groupSum, outsideSum, shortfallWithReserve, groupShortfall, outsideTier5, groupRetention}
 use Rattle.settlement.specs.Claims.{unpaid, setOff, arrears, claim}
 use Rattle.settlement.specs.Tiers.{share, leftFor, tierShare, met}
 use Rattle.settlement.specs.Rounds.{weight, loss, round, run, spread}
 use Rattle.settlement.specs.Settling.{available, revised, scaledAbove, scaledBelow, deficit, spent, rounds, paid, held}
 use Rattle.settlement.specs.Late.{fill, shortage, latePayment}
 use Rattle.settlement.specs.Examples.{Examples}
+use Rattle.settlement.specs.GroupExamples.{GroupExamples}
 
 pub examples : Examples
 unfolding sum largest table ceilDiv energyCents overTiers gives shortfall othersTier5 retention payable fullClaim unpaid setOff arrears claim share leftFor tierShare met weight loss round run spread available revised scaledAbove scaledBelow deficit spent rounds paid held fill shortage latePayment
@@ -25,4 +27,19 @@ examples = record {
   noticeB = (refl, refl);
   settledB = (refl, refl, refl, refl);
   two-rounds = (refl, refl);
+}
+
+pub group-examples : GroupExamples
+unfolding sum largest table ceilDiv overTiers gives payable groupSum outsideSum shortfallWithReserve groupShortfall outsideTier5 groupRetention
+group-examples = record {
+  apart-a = (refl, refl);
+  apart-b = (refl, refl);
+  together = (refl, refl);
+  alone = refl;
+  reserve-counts = refl;
+  reserve-idle = refl;
+  sum-zero = refl;
+  all-in-one = refl;
+  both = (refl, refl);
+  whole = refl;
 }

@@ -2,7 +2,9 @@
 
 -- where a tier stands in a flat array; retention is at most the tier 5 part, and that at most all that is owing
 pub use Rattle.settlement.proofs.MonthLaws.{tier-at, tier-le, tier5-le}
-pub use Rattle.settlement.proofs.RetentionLaws.{retention-sound}
+pub use Rattle.settlement.proofs.RetentionLaws.{retention-sound, notice-due}
+-- groups and reserves within their values; where each participant is in a group of its own retention is 01's
+pub use Rattle.settlement.proofs.GroupLaws.{group-within, reserve-within, grouping-allowed, allowed-cong, retention-cong, separate-retention}
 -- payable amounts and full claims
 pub use Rattle.settlement.proofs.NoticeLaws.{full-max, full-balance, retained-le-full, full-le, payable-le, full-total}
 -- step 1

@@ -1,6 +1,7 @@
 mod Examples
 mod MonthLaws
 mod RetentionLaws
+mod GroupLaws
 mod NoticeLaws
 mod ClaimLaws
 mod TierLaws

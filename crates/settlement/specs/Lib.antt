@@ -1,8 +1,10 @@
 pub mod Month
 pub mod Notice
+pub mod Groups
 pub mod Tiers
 pub mod Claims
 pub mod Rounds
 pub mod Settling
 pub mod Late
 pub mod Examples
+pub mod GroupExamples

@@ -1,5 +1,5 @@
--- What a notice reckons: retention, payable amounts and full claims (01, Notice).
--- Retention is by document 000, section 2, (1) and (1a), with every participant its own related group.
+-- 01's retention, with every participant its own related group, and payable amounts and full claims by any retention (01,
+-- Notice; document 000, section 2, (1) and (1a)). `Groups` has the retention that a notice reckons with.
 use Prim.Native.Nat.{ℕ, _+_, _-_, _*_, _≤_}
 use mathlib.Core.Path.{_≡_}
 use mathlib.Core.Bool.{cond}
@@ -8,9 +8,8 @@ use lib.Dec.{eqb, leb}
 use Rattle.exact.specs.Rows.{sum, largest, cells}
 use Rattle.exact.specs.Division.{ceilDiv}
 use Rattle.settlement.specs.Month.{Month, owingTo, tier5}
-use Rattle.settlement.specs.declared.noticing.Noticed.{Noticed}
 
--- what p gives i: s is the shortfall of p, g the tier 5 total of the others than p, G the tier 5 part of i
+-- what a participant or a group gives i: s is its shortfall, g the tier 5 total of all others, G the tier 5 part of i
 unfoldable pub gives : ℕ → ℕ → ℕ → ℕ
 gives s g G = cond (eqb g 0) 0 (cond (eqb s 0) 0 (cond (leb g s) G (ceilDiv (G * s) g)))
 
@@ -40,10 +39,6 @@ module _ (m : Month) (retained : ℕ → ℕ) where
   -- F_i = O_i − B_i + P_i (14.22(2))
   unfoldable pub fullClaim : ℕ → ℕ
   fullClaim i = (owingTo m i + payable i) - m .by i
-
--- what a notice hands on
-abbrev pub noticed : Month → Noticed
-noticed m = record { retention = cells (retention m) (m .n); payable = cells (payable m (retention m)) (m .n) }
 
 -- a payable row that comes from some sound row of retention, as the one that a notice hands on does
 pub record Due (m : Month) (payables : List ℕ) : Type 0 where

@@ -1,5 +1,6 @@
 // One month in whole cents: retention and payable amounts at notice, settlement with its rounds, and late money.
 mod claims;
+mod groups;
 mod late;
 mod noticing;
 mod owing;
@@ -9,6 +10,9 @@ mod settling;
 mod spread;
 mod walk;
 
+pub use groups::GROUPS;
+pub use groups::Grouping;
+pub use groups::is_grouping_allowed;
 pub use late::late_payments;
 pub use noticing::Noticed;
 pub use noticing::notice;

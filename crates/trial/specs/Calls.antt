@@ -1,11 +1,12 @@
 -- How many bytes a call takes.
 use Prim.Native.Nat.{ℕ, _+_}
 use Rattle.trial.specs.declared.calls.Call.{Call}
-use Rattle.trial.specs.declared.calls.Call.the-variants.{Make, Apply, Read, Write, More, Stop}
+use Rattle.trial.specs.declared.calls.Call.the-variants.{Make, MakeGrouped, Apply, Read, Write, More, Stop}
 
 -- 0 where none stands there whole
 abbrev pub callLength : Call → ℕ
 callLength Make = 9
+callLength MakeGrouped = 585
 callLength Apply = 26
 callLength (Read count) = 11 + count
 callLength Write = 26

@@ -7,12 +7,15 @@ use crate::calls::Call;
 use crate::calls::READ_LENGTH;
 use crate::calls::entry_of;
 use crate::calls::fields_at;
+use crate::calls::making_at;
 use crate::calls::number_at;
+use crate::calls::separate_at;
 use crate::lines::NUMBERS;
 use crate::lines::layout_of;
 use crate::lines::put_line;
 use book::Book;
 use book::Entry;
+use book::Making;
 use book::Reading;
 use book::Writing;
 use text::part;
@@ -49,11 +52,10 @@ fn wide(x: u8) -> u64 {
 }
 
 // Makes the book that all later calls go to.
-fn make(s: &[u8], out: &mut [u8; BLOCK]) -> Called
-    requires { ⌜ 9 ≤ length (now s) ⌝ }
+fn make(m: Making, out: &mut [u8; BLOCK]) -> Called
     ensures { λ r. ⌜ Valid (r .book) × (r .wrote ≤ 65536) ⌝ }
 {
-    let made = book::new(number_at(s, 1, 8) as usize);
+    let made = book::new(m);
     let answer = made.answer;
     let mut numbers = [0u64; NUMBERS];
     numbers[0] = book::number(answer);
@@ -171,7 +173,8 @@ pub fn call(b: Book, c: Call, s: &[u8], out: &mut [u8; BLOCK]) -> Called
     ensures { λ r. ⌜ Valid (r .book) × (r .wrote ≤ 65536) ⌝ }
 {
     match c {
-        Call::Make => make(s, out),
+        Call::Make => make(separate_at(s), out),
+        Call::MakeGrouped => make(making_at(s), out),
         Call::Apply => apply(b, s, out),
         Call::Read(count) => {
             let next = read(s, count as usize, out);

@@ -72,7 +72,8 @@ fn call_all(first: Book, bytes: &mut [u8; CALLS], out: &mut [u8; BLOCK])
 fn main() {
     let mut bytes = [0u8; CALLS];
     let mut out = [0u8; BLOCK];
-    let made = book::new(0);
+    let m = book::separate(0);
+    let made = book::new(m);
     let first = made.book;
     call_all(first, &mut bytes, &mut out);
 }

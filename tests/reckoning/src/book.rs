@@ -39,7 +39,7 @@ pub struct Book {
     pub n: usize,
     /// What the book was made with.
     pub making: Making,
-    /// How it reckons A.
+    /// How it reckons A; only wrong versions, which tests try, have another way.
     pub retention: Retention,
     pub highest: u32,
     /// The periods in the book; the oldest has the lowest number.
@@ -140,6 +140,7 @@ impl Book {
         Book::make(&Making::alone(n)).0
     }
 
+    /// The book of a making, without a test of it.
     pub(crate) fn with(making: Making) -> Book {
         Book { n: making.n as usize, making, retention, highest: 0, periods: BTreeMap::new() }
     }

@@ -1,11 +1,20 @@
 //! The bytes of calls to the trial program, and months that several callers take.
 
 use crate::codec::{width, Entry};
+use crate::making::Making;
 use crate::trial::CALL_FIELDS;
 
 pub fn book(n: u64) -> Vec<u8> {
     let mut bytes = vec![b'B'];
     bytes.extend(n.to_le_bytes());
+    bytes
+}
+
+pub fn book_in_groups(making: &Making) -> Vec<u8> {
+    let mut bytes = vec![b'G'];
+    bytes.extend(making.n.to_le_bytes());
+    bytes.extend(making.groups);
+    making.reserves.iter().for_each(|cents| bytes.extend(cents.to_le_bytes()));
     bytes
 }
 

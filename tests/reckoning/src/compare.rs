@@ -5,8 +5,10 @@ use crate::handover::handover;
 use crate::judge::{judge_listing, judge_trial};
 use crate::pairs;
 use crate::program;
+use crate::reach::Reach;
 use crate::refusals::NUMBERS;
 use crate::trials::{self, TRIALS, TRIALS_OF_ROUNDS};
+use crate::trials_of_groups;
 
 /// Differences printed in full; the others are only counted.
 const SHOWN: u64 = 10;
@@ -28,6 +30,7 @@ struct Totals {
     listed: [u64; NUMBERS],
     tried: [u64; NUMBERS],
     rounds: Vec<u64>,
+    reach: Reach,
 }
 
 fn add(to: &mut [u64], from: &[u64]) {
@@ -84,6 +87,7 @@ impl Totals {
                 add(&mut self.tried, &count.answers);
                 self.rounds.resize(count.rounds.len(), 0);
                 add(&mut self.rounds, &count.rounds);
+                self.reach.add(&count.reach);
             }
         }
     }
@@ -94,6 +98,7 @@ impl Totals {
             && self.months >= LEAST_MONTHS
             && self.calls >= LEAST_CALLS
             && self.tried.iter().all(|&count| count > 0)
+            && self.reach.covered()
             && self.listed.iter().enumerate().all(|(number, &count)| number == 5 || count > 0);
         if !enough {
             println!("too little was compared");
@@ -105,6 +110,7 @@ impl Totals {
         print_answers("answers in listings", &self.listed);
         print_answers("answers in trials", &self.tried);
         print_answers("apply calls by rounds", &self.rounds);
+        self.reach.print();
         println!(
             "months settled with arrears: {}, months that left: {}",
             self.with_arrears, self.left
@@ -145,6 +151,9 @@ fn compare_trials(totals: &mut Totals, program: &str) {
             &format!("trial of rounds seed {seed}"),
             &trials::trial_of_rounds(seed),
         );
+    }
+    for (name, calls) in trials_of_groups::every_trial() {
+        totals.trial(program, &name, &calls);
     }
 }
 

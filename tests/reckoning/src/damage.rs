@@ -1,5 +1,5 @@
-//! Shows that the comparison works: right outputs are damaged, and each damage
-//! must be reported.
+//! Shows that the comparison works: right outputs are damaged, and wrong versions
+//! of the rules are tried, and each must be reported.
 
 use crate::demand3;
 use crate::feeds;
@@ -8,6 +8,8 @@ use crate::listing::listing;
 use crate::pairs;
 use crate::trial;
 use crate::trials;
+use crate::trials_of_groups::{self, Named};
+use crate::versions::{Wrong, WRONG};
 
 /// Changes the lines of an output; false if there is nothing it could damage.
 type Change = fn(&mut Vec<String>) -> bool;
@@ -136,6 +138,10 @@ impl Report {
             None => println!("NOT REPORTED: {name}"),
         }
     }
+
+    fn all(&self) -> bool {
+        self.made == self.reported
+    }
 }
 
 /// Feeds whose last months were settled and paid.
@@ -184,8 +190,11 @@ fn ends_damaged(right: &[u8]) -> [(&'static str, Vec<u8>); 2] {
 fn damage_trials(report: &mut Report) -> bool {
     let mut right_stands = true;
     let mut used = [0; OF_TRIAL.len()];
-    let mut chosen: Vec<(String, Vec<u8>)> =
+    let mut chosen: Vec<Named> =
         (0..6).map(|seed| (format!("seed {seed}"), trials::trial(seed))).collect();
+    let of_groups =
+        |seed| (format!("of groups seed {seed}"), trials_of_groups::trial_of_groups(seed));
+    chosen.extend((0..3).map(of_groups));
     chosen.extend(
         pairs::pairs().into_iter().take(6).map(|pair| (format!("pair of {}", pair.of), pair.both)),
     );
@@ -203,7 +212,29 @@ fn damage_trials(report: &mut Report) -> bool {
     right_stands && used.iter().all(|&count| count > 0)
 }
 
-/// Damages right outputs; true only if each damage was reported and no right output was.
+/// How many trials tell a wrong version from the right one, and the first of them; nothing if
+/// none does.
+fn told(trials: &[Named], wrong: &Wrong) -> Option<String> {
+    let judged = |(name, calls): &Named| {
+        let found = trial::lines_by(wrong.make, calls).0;
+        judge_trial(calls, &found).err().map(|what| format!("{name}: {what}"))
+    };
+    let told: Vec<String> = trials.iter().filter_map(judged).collect();
+    told.first().map(|first| format!("by {} of {} trials; {first}", told.len(), trials.len()))
+}
+
+/// Tries each wrong version on the trials of groups.
+fn try_versions() -> Report {
+    let mut report = Report::default();
+    let trials: Vec<Named> = trials_of_groups::every_trial().collect();
+    for wrong in &WRONG {
+        report.take(&format!("version: {}", wrong.name), told(&trials, wrong));
+    }
+    report
+}
+
+/// Damages right outputs and tries wrong versions; true only if each was reported and no right
+/// output was.
 pub fn selftest() -> bool {
     let mut report = Report::default();
     let listings = damage_listings(&mut report);
@@ -211,6 +242,10 @@ pub fn selftest() -> bool {
     if !(listings && trials) {
         println!("a right output was reported, or a damage was never made");
     }
-    println!("selftest: {} damages, {} reported", report.made, report.reported);
-    listings && trials && report.made == report.reported
+    let versions = try_versions();
+    println!(
+        "selftest: {} damages, {} reported; {} wrong versions, {} told",
+        report.made, report.reported, versions.made, versions.reported
+    );
+    listings && trials && report.all() && versions.all()
 }

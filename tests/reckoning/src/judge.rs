@@ -1,7 +1,9 @@
 //! Judges what another program printed, byte for byte, and by demand 3.
 
+use crate::book::Book;
 use crate::demand3::{self, Count};
 use crate::listing::listing;
+use crate::reach::Reach;
 use crate::refusals::NUMBERS;
 use crate::trial;
 
@@ -50,11 +52,13 @@ pub struct Calls {
     pub answers: [u64; NUMBERS],
     /// How many apply calls were answered with so many rounds.
     pub rounds: Vec<u64>,
+    /// How far the calls reach into books made with groups and reserves.
+    pub reach: Reach,
 }
 
 /// Counts the lines that the reckoning gives for a trial.
-fn count(lines: &[u8]) -> Calls {
-    let mut calls = Calls { rounds: vec![0; 65], ..Calls::default() };
+fn count(lines: &[u8], reach: Reach) -> Calls {
+    let mut calls = Calls { rounds: vec![0; 65], reach, ..Calls::default() };
     let text = std::str::from_utf8(lines).expect("text");
     for line in text.lines() {
         let words: Vec<&str> = line.split(' ').collect();
@@ -69,9 +73,9 @@ fn count(lines: &[u8]) -> Calls {
 
 /// What the lines found for a trial came to, or how they differ.
 pub fn judge_trial(calls: &[u8], found: &[u8]) -> Result<Calls, String> {
-    let reckoned = trial::expected(calls);
+    let (reckoned, reach) = trial::lines_by(Book::make, calls);
     match first_difference(&reckoned, found) {
         Some(difference) => Err(difference),
-        None => Ok(count(&reckoned)),
+        None => Ok(count(&reckoned, reach)),
     }
 }

@@ -12,21 +12,26 @@ pub mod feeds;
 pub mod groupings;
 pub mod handover;
 pub mod judge;
+pub mod kinds;
 pub mod lines;
 pub mod listing;
 pub mod making;
+pub mod makings;
 pub mod malformed;
 pub mod month;
 pub mod months;
 pub mod pairs;
 pub mod program;
 pub mod random;
+pub mod reach;
 pub mod refusals;
 pub mod retention;
 pub mod rounds;
 pub mod soak;
 pub mod trial;
 pub mod trials;
+pub mod trials_of_groups;
+pub mod versions;
 mod wrong;
 
 #[cfg(test)]

@@ -1,4 +1,4 @@
-//! Random months given as rows, with all that 01 reckons from them, for a
+//! Random months given as rows, with all that 01 and 02 reckon from them, for a
 //! comparison with the engine's functions.
 
 use crate::groupings;

@@ -4,7 +4,7 @@
 //!
 //! Pairs that cannot hold at once, and are not here:
 //! - 1 (no byte) with any other, 2 with 3: there is nothing to look at.
-//! - 4 with 7, 9, 10, 11, 13, 14: a book of refused n has no periods.
+//! - 4 with 7, 9, 10, 11, 13, 14: a refused book has no periods.
 //! - 9 with 10: once the notice was accepted the sides stay equal.
 //! - 12 with 14: only a participant below n can have arrears.
 //! - 6 and 7 with 8 to 14, and 10, 11, 13 or 14 with one of another kind:
@@ -13,6 +13,7 @@
 
 use crate::calls;
 use crate::codec::{Entry, MOST_CENTS};
+use crate::makings;
 
 /// The pairs covered: an earlier refusal, and each later one that it is put with,
 /// some of them for several kinds of entry.
@@ -22,7 +23,7 @@ pub const COVERED: [(u8, &[u8]); 11] = [
     (1, &[3]),
     // Writing.
     (3, &[5]),
-    // The book.
+    // The book; 4 with 3 also where it is made.
     (4, &[3, 5, 6, 8, 12]),
     (5, &[3, 6, 7, 8, 9, 10, 11, 12, 13, 14]),
     (3, &[8, 9, 11, 12, 13, 14]),
@@ -226,8 +227,8 @@ fn pairs_of_4() -> Vec<Pair> {
     let mut pairs = Vec::new();
     for (of, later, entry, words) in rows {
         let call = calls::apply(&entry, words);
-        for n in [0, 65, 255, u64::MAX] {
-            let both = [calls::book(n), call.clone()].concat();
+        for book in makings::refused_books() {
+            let both = [book, call.clone()].concat();
             let alone = [&scene[..], &call].concat();
             pairs.push(Pair { of, earlier: 4, later, both, alone });
         }
@@ -260,6 +261,7 @@ pub fn pairs() -> Vec<Pair> {
         pairs.extend(rows.into_iter().map(|row| pair(&scene, row)));
     }
     pairs.extend(rows_of_twelve_periods().into_iter().map(|row| pair(&twelve, row)));
+    pairs.extend(makings::pairs_of_making());
     pairs
 }
 

@@ -3,6 +3,7 @@
 use crate::book::Book;
 use crate::codec::{self, Entry, Field};
 use crate::making::Making;
+use crate::reach::{Reach, Watch};
 use crate::refusals::ACCEPTED;
 use std::io::{self, Read, Write};
 
@@ -50,18 +51,24 @@ fn with_numbers<T: ToString>(mut line: String, numbers: impl IntoIterator<Item =
     line
 }
 
-fn call_book(input: &mut impl Read, book: &mut Book) -> Option<String> {
-    let (made, answer) = Book::make(&Making::alone(take(input, 8)?));
-    *book = made;
-    Some(format!("book {answer}"))
+/// n, 64 group numbers of a byte each, and 64 reserves of eight bytes each.
+fn take_making(input: &mut impl Read) -> Option<Making> {
+    let mut making = Making::alone(take(input, 8)?);
+    input.read_exact(&mut making.groups).ok()?;
+    for cents in &mut making.reserves {
+        *cents = take(input, 8)?;
+    }
+    Some(making)
 }
 
-fn call_apply(input: &mut impl Read, book: &mut Book) -> Option<String> {
-    let entry = take_entry(input)?;
-    let mut words = vec![WORD_BEFORE; take(input, 1)? as usize];
-    let answer = book.apply(&entry, &mut words);
-    let line = format!("apply {} {} {}", answer.number, answer.rounds, book.held());
-    Some(with_numbers(line, words))
+/// Makes a book: the book, and 0 or the refusal's number.
+pub type Make = fn(&Making) -> (Book, u8);
+
+/// The book that calls go to, and what makes the next one.
+struct Trial {
+    book: Book,
+    make: Make,
+    watch: Watch,
 }
 
 fn call_read(input: &mut impl Read) -> Option<String> {
@@ -87,29 +94,74 @@ fn call_write(input: &mut impl Read) -> Option<String> {
     Some(with_numbers(format!("write {answer} {count}"), lent))
 }
 
-/// The line of the next call; nothing where the trial program stops.
-fn call(input: &mut impl Read, book: &mut Book) -> Option<String> {
-    match take(input, 1)? as u8 {
-        b'B' => call_book(input, book),
-        b'A' => call_apply(input, book),
-        b'R' => call_read(input),
-        b'W' => call_write(input),
-        _ => None,
+impl Trial {
+    fn new(make: Make) -> Trial {
+        // Before the first book is made, entries come to one without participants.
+        Trial { book: Book::alone(0), make, watch: Watch::default() }
+    }
+
+    fn made(&mut self, making: &Making) -> (String, u8) {
+        let (book, answer) = (self.make)(making);
+        self.book = book;
+        (format!("book {answer}"), answer)
+    }
+
+    fn call_book(&mut self, input: &mut impl Read) -> Option<String> {
+        let making = Making::alone(take(input, 8)?);
+        self.watch.made_alone();
+        Some(self.made(&making).0)
+    }
+
+    fn call_book_in_groups(&mut self, input: &mut impl Read) -> Option<String> {
+        let making = take_making(input)?;
+        let (line, answer) = self.made(&making);
+        self.watch.made(answer);
+        Some(line)
+    }
+
+    fn call_apply(&mut self, input: &mut impl Read) -> Option<String> {
+        let entry = take_entry(input)?;
+        let mut words = vec![WORD_BEFORE; take(input, 1)? as usize];
+        let before = self.book.periods.get(&entry.period).cloned();
+        let answer = self.book.apply(&entry, &mut words);
+        self.watch.applied(&self.book, before.as_ref(), &entry, answer);
+        let line = format!("apply {} {} {}", answer.number, answer.rounds, self.book.held());
+        Some(with_numbers(line, words))
+    }
+
+    /// The line of the next call; nothing where the trial program stops.
+    fn call(&mut self, input: &mut impl Read) -> Option<String> {
+        match take(input, 1)? as u8 {
+            b'B' => self.call_book(input),
+            b'G' => self.call_book_in_groups(input),
+            b'A' => self.call_apply(input),
+            b'R' => call_read(input),
+            b'W' => call_write(input),
+            _ => None,
+        }
+    }
+
+    fn run(&mut self, mut input: impl Read, out: &mut impl Write) -> io::Result<()> {
+        while let Some(line) = self.call(&mut input) {
+            writeln!(out, "{line}")?;
+        }
+        Ok(())
     }
 }
 
 /// Prints a line for each call.
-pub fn run(mut input: impl Read, out: &mut impl Write) -> io::Result<()> {
-    let mut book = Book::alone(0);
-    while let Some(line) = call(&mut input, &mut book) {
-        writeln!(out, "{line}")?;
-    }
-    Ok(())
+pub fn run(input: impl Read, out: &mut impl Write) -> io::Result<()> {
+    Trial::new(Book::make).run(input, out)
+}
+
+/// The lines for calls that are in memory, where books are made so, and how far they reach.
+pub fn lines_by(make: Make, calls: &[u8]) -> (Vec<u8>, Reach) {
+    let (mut trial, mut out) = (Trial::new(make), Vec::new());
+    trial.run(calls, &mut out).expect("memory takes every byte");
+    (out, trial.watch.reach)
 }
 
 /// The lines for calls that are in memory.
 pub fn expected(calls: &[u8]) -> Vec<u8> {
-    let mut out = Vec::new();
-    run(calls, &mut out).expect("memory takes every byte");
-    out
+    lines_by(Book::make, calls).0
 }

@@ -18,7 +18,7 @@ const MOST_CALLS: u64 = 500;
 const EVERY_N: [u64; 16] = [1, 2, 3, 3, 4, 5, 6, 6, 63, 64, 64, 0, 65, 255, 1 << 32, u64::MAX];
 const STANDING_N: [u64; 8] = [1, 2, 3, 4, 5, 6, 63, 64];
 
-fn any_manner(random: &mut Random, n: u64) -> Manner {
+pub(crate) fn any_manner(random: &mut Random, n: u64) -> Manner {
     Manner {
         scale: random.pick(&[
             Scale::Few,
@@ -90,7 +90,7 @@ pub fn trial_of_rounds(seed: u64) -> Vec<u8> {
 
 /// Ends a trial after a whole call, within a call, at a byte that is no call,
 /// or at a kind that does not exist.
-fn end(bytes: &mut Vec<u8>, random: &mut Random) {
+pub(crate) fn end(bytes: &mut Vec<u8>, random: &mut Random) {
     match random.below(6) {
         0 => {
             let lost = random.between(1, 24) as usize;
@@ -148,7 +148,7 @@ fn any_entry(aim: &mut Aim, edges: u64) -> Entry {
     entry
 }
 
-fn any_apply(aim: &mut Aim) -> Vec<u8> {
+pub(crate) fn any_apply(aim: &mut Aim) -> Vec<u8> {
     let entry = any_entry(aim, 6);
     let n = aim.book.n as u64;
     let words = match aim.random.below(10) {

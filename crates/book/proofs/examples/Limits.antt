@@ -7,14 +7,16 @@ use Rattle.book.specs.layouts.Entries.{entryOf, bytesOf}
 use Rattle.book.specs.layouts.Reading.{entryAt, reading}
 use Rattle.book.specs.layouts.Writing.{writing, written}
 use Rattle.book.specs.rules.Periods.{zeros, fresh, raised, sideTotal, holds, leaves, amounted, withNotice, withReceipt, withSettlement, latePays, withLateReceipt, changed}
-use Rattle.book.specs.rules.State.{heldIn, made, find, arrearsBefore, earlierArrears, replaced, removed, added}
+use Rattle.book.specs.rules.State.{heldIn, find, arrearsBefore, earlierArrears, replaced, removed, added}
+use Rattle.book.specs.rules.Makings.{made}
 use Rattle.book.specs.rules.Refusals.{receivable}
 use Rattle.book.specs.rules.Step.{stored, payoutWords, accepted, step}
 use Rattle.exact.specs.Rows.{sum, largest, table, filled, cells}
 use Rattle.exact.specs.Division.{ceilDiv}
 use Rattle.exact.specs.Energy.{energyCents}
 use Rattle.settlement.specs.Month.{overTiers}
-use Rattle.settlement.specs.Notice.{gives, shortfall, othersTier5, retention, payable, fullClaim}
+use Rattle.settlement.specs.Notice.{gives, payable, fullClaim}
+use Rattle.settlement.specs.Groups.{groupingAllowed, groupSum, outsideSum, shortfallWithReserve, groupShortfall, outsideTier5, groupRetention}
 use Rattle.settlement.specs.Claims.{unpaid, setOff, arrears, claim}
 use Rattle.settlement.specs.Tiers.{share, leftFor, tierShare, met}
 use Rattle.settlement.specs.Rounds.{weight, loss, round, run, spread}
@@ -22,7 +24,7 @@ use Rattle.settlement.specs.Settling.{available, revised, scaledAbove, scaledBe
 use Rattle.settlement.specs.Late.{fill, shortage, latePayment}
 
 field-limits : FieldLimits
-unfolding stateAfter zeros fresh raised sideTotal leaves amounted withNotice withReceipt changed made find arrearsBefore earlierArrears replaced added receivable stored payoutWords accepted step sum largest table filled cells ceilDiv energyCents overTiers gives shortfall othersTier5 retention payable fullClaim
+unfolding stateAfter zeros fresh raised sideTotal leaves amounted withNotice withReceipt changed made find arrearsBefore earlierArrears replaced added receivable stored payoutWords accepted step sum largest table filled cells ceilDiv energyCents overTiers gives groupingAllowed groupSum outsideSum shortfallWithReserve groupShortfall outsideTier5 groupRetention payable fullClaim
 field-limits = record {
   participant-energy = refl;
   participant-amount = refl;
@@ -63,10 +65,17 @@ byte-limits = record {
 }
 
 book-limits : BookLimits
-unfolding stateAfter zeros fresh raised sideTotal holds leaves amounted withNotice withReceipt withSettlement latePays withLateReceipt changed heldIn made find arrearsBefore earlierArrears replaced removed added receivable stored payoutWords accepted step sum largest table filled cells ceilDiv energyCents overTiers gives shortfall othersTier5 retention payable fullClaim unpaid setOff arrears claim share leftFor tierShare met weight loss round run spread available revised scaledAbove scaledBelow deficit spent rounds paid held fill shortage latePayment
+unfolding stateAfter zeros fresh raised sideTotal holds leaves amounted withNotice withReceipt withSettlement latePays withLateReceipt changed heldIn made find arrearsBefore earlierArrears replaced removed added receivable stored payoutWords accepted step sum largest table filled cells ceilDiv energyCents overTiers gives groupingAllowed groupSum outsideSum shortfallWithReserve groupShortfall outsideTier5 groupRetention payable fullClaim unpaid setOff arrears claim share leftFor tierShare met weight loss round run spread available revised scaledAbove scaledBelow deficit spent rounds paid held fill shortage latePayment
 book-limits = record {
   least-n = (refl, refl);
   most-n = (refl, refl);
+  most-group = (refl, refl);
+  groups-past-n = refl;
+  first-reserve = (refl, refl);
+  last-reserve = (refl, refl);
+  four-before-three = (refl, refl);
+  refused-book = refl;
+  answers-four = refl;
   words-1 = (refl, refl);
   words-64 = (refl, refl);
   first-period = refl;

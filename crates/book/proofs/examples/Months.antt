@@ -1,15 +1,17 @@
--- 01's examples come out of the definitions by computation.
+-- These examples come out of the definitions by computation.
 use mathlib.Core.Path.{refl}
 use Rattle.book.specs.examples.Months.{Examples, linesFrom, stateAfter}
 use Rattle.book.specs.rules.Periods.{zeros, fresh, raised, sideTotal, holds, leaves, amounted, withNotice, withReceipt, withSettlement, latePays, withLateReceipt, changed}
-use Rattle.book.specs.rules.State.{heldIn, made, find, arrearsBefore, earlierArrears, replaced, removed, added}
+use Rattle.book.specs.rules.State.{heldIn, find, arrearsBefore, earlierArrears, replaced, removed, added}
+use Rattle.book.specs.rules.Makings.{made}
 use Rattle.book.specs.rules.Refusals.{receivable}
 use Rattle.book.specs.rules.Step.{stored, payoutWords, accepted, step}
 use Rattle.exact.specs.Rows.{sum, largest, table, filled, cells}
 use Rattle.exact.specs.Division.{ceilDiv}
 use Rattle.exact.specs.Energy.{energyCents}
 use Rattle.settlement.specs.Month.{overTiers}
-use Rattle.settlement.specs.Notice.{gives, shortfall, othersTier5, retention, payable, fullClaim}
+use Rattle.settlement.specs.Notice.{gives, payable, fullClaim}
+use Rattle.settlement.specs.Groups.{groupingAllowed, groupSum, outsideSum, shortfallWithReserve, groupShortfall, outsideTier5, groupRetention}
 use Rattle.settlement.specs.Claims.{unpaid, setOff, arrears, claim}
 use Rattle.settlement.specs.Tiers.{share, leftFor, tierShare, met}
 use Rattle.settlement.specs.Rounds.{weight, loss, round, run, spread}
@@ -17,11 +19,16 @@ use Rattle.settlement.specs.Settling.{available, revised, scaledAbove, scaledBe
 use Rattle.settlement.specs.Late.{fill, shortage, latePayment}
 
 pub examples : Examples
-unfolding linesFrom stateAfter zeros fresh raised sideTotal holds leaves amounted withNotice withReceipt withSettlement latePays withLateReceipt changed heldIn made find arrearsBefore earlierArrears replaced removed added receivable stored payoutWords accepted step sum largest table filled cells ceilDiv energyCents overTiers gives shortfall othersTier5 retention payable fullClaim unpaid setOff arrears claim share leftFor tierShare met weight loss round run spread available revised scaledAbove scaledBelow deficit spent rounds paid held fill shortage latePayment
+unfolding linesFrom stateAfter zeros fresh raised sideTotal holds leaves amounted withNotice withReceipt withSettlement latePays withLateReceipt changed heldIn made find arrearsBefore earlierArrears replaced removed added receivable stored payoutWords accepted step sum largest table filled cells ceilDiv energyCents overTiers gives groupingAllowed groupSum outsideSum shortfallWithReserve groupShortfall outsideTier5 groupRetention payable fullClaim unpaid setOff arrears claim share leftFor tierShare met weight loss round run spread available revised scaledAbove scaledBelow deficit spent rounds paid held fill shortage latePayment
 examples = record {
   month-a = refl;
   gone-a = refl;
   month-b = refl;
+  payable-c = refl;
+  payable-reserve = refl;
+  month-c = refl;
+  month-c-alone = refl;
+  month-c-both = refl;
   empty-month = refl;
   empty-gone = refl;
   answers-65 = refl;

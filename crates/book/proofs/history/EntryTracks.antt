@@ -7,14 +7,15 @@ use mathlib.Core.Logic.{⊎-elim}
 use native.Mathlib.Omega.{arith}
 use borrow.Author.Tests.{eqb-true}
 use Rattle.exact.specs.Rows.{places}
+use Rattle.settlement.specs.declared.groups.Grouping.{Grouping}
 use Rattle.book.specs.Checks.{refusal}
 use Rattle.book.specs.layouts.Entries.{kindOf, entryOf, field}
 use Rattle.book.specs.layouts.Allowed.{allowed}
 use Rattle.book.specs.rules.Kinds.{isOpen, isAmount, isReceipt, addition}
 use Rattle.book.specs.rules.Periods.{zeros, Change, withAddition, changed}
 use Rattle.book.specs.rules.Refusals.{amountChecks, periodChecks}
-use Rattle.book.specs.rules.Valid.{Sound}
-use Rattle.book.specs.history.Log.{Account}
+use Rattle.book.specs.rules.Valid.{Sound, InBook}
+use Rattle.book.specs.history.Log.{Account, retention}
 use Rattle.book.specs.history.Demand3.{TiersInOrder}
 use Rattle.book.specs.declared.entries.Entry.{Entry}
 use Rattle.book.specs.declared.entries.Entry.the-variants.{Open, Energy, Amount, Notice, Receipt, Settle}
@@ -26,9 +27,12 @@ use Rattle.book.proofs.rules.EntryChanges.{changed-receipt, changed-lat
 use Rattle.book.proofs.history.Tracking.{Staged, Tracks, with-entry, Paid, track-notice, track-amount, track-receipt}
 use Rattle.book.proofs.history.LateTracking.{track-settle, track-late, late-in-order}
 
-module _ (n : ℕ) (p : Period) (s : Sound n p) (a : Account) (t : Tracks n p a) (words : List ℕ) where
+module _ (n : ℕ) {grouping : Grouping} (p : Period) (b : InBook n grouping p) (a : Account) (t : Tracks n grouping p a) (words : List ℕ) where
+  abbrev s : Sound n p
+  s = b .sound
+
   adds : (e : Entry) → isAmount e ≡ true → allowed e ≡ true → refusal (amountChecks n p (addition e)) ≡ 0
-      → Paid n (zeros places) words → Tracks n (withAddition p (addition e)) (with-entry e words a)
+      → Paid n (zeros places) words → Tracks n grouping (withAddition p (addition e)) (with-entry e words a)
   adds e q l z w =
       let d = addition e in
       let o = amount-other e q in
@@ -36,7 +40,7 @@ module _ (n : ℕ) (p : Period) (s : Sound n p) (a : Account) (t : Tracks n p a)
       (record { by = λ j. rw q; to = λ u j. rw q; no-receipt = λ j. rw (o .not-receipt); no-settle = o .not-settle })
 
   pub entry-tracks : (e : Entry) (barred : Bool) → isOpen e ≡ false → allowed e ≡ true → refusal (periodChecks n barred e p) ≡ 0
-      → Paid n (changed n e p .pays) words → Tracks n (changed n e p .period) (with-entry e words a)
+      → Paid n (changed n grouping e p .pays) words → Tracks n grouping (changed n grouping e p .period) (with-entry e words a)
   unfolding changed
   entry-tracks (Open k) barred o l e w = absurd (true≢false o)
   entry-tracks (Energy k i side quantity price) barred o l e w = adds (Energy k i side quantity price) refl l e w
@@ -45,25 +49,25 @@ module _ (n : ℕ) (p : Period) (s : Sound n p) (a : Account) (t : Tracks n p a)
   entry-tracks (Receipt k i cents) barred o l e w =
       let f = receipt-passes n p barred i cents e in
       ⊎-elim
-      (λ q. subst (λ (c : Change). Tracks n (c .period) (with-entry (Receipt k i cents) words a)) (sym (changed-receipt n p k i cents q))
-      (track-receipt n p s a t words (subst (λ (c : Change). Paid n (c .pays) words) (changed-receipt n p k i cents q) w) k i cents q (f .member)))
-      (λ q. subst (λ (c : Change). Tracks n (c .period) (with-entry (Receipt k i cents) words a)) (sym (changed-late n p k i cents q))
-      (track-late n p s a t words k i cents q f (subst (λ (c : Change). Paid n (c .pays) words) (changed-late n p k i cents q) w)))
+      (λ q. subst (λ (c : Change). Tracks n grouping (c .period) (with-entry (Receipt k i cents) words a)) (sym (changed-receipt n grouping p k i cents q))
+      (track-receipt n p s a t words (subst (λ (c : Change). Paid n (c .pays) words) (changed-receipt n grouping p k i cents q) w) k i cents q (f .member)))
+      (λ q. subst (λ (c : Change). Tracks n grouping (c .period) (with-entry (Receipt k i cents) words a)) (sym (changed-late n grouping p k i cents q))
+      (track-late n p s a t words k i cents q f (subst (λ (c : Change). Paid n (c .pays) words) (changed-late n grouping p k i cents q) w)))
       (f .stage)
-  entry-tracks (Settle k) barred o l e w = track-settle n p s a t words k (settle-passes p e) w
+  entry-tracks (Settle k) barred o l e w = track-settle n p s a t words b k (settle-passes p e) w
 
   receipt-in-order : (k i cents : ℕ) (barred : Bool) → 0 < a .settlements → refusal (periodChecks n barred (Receipt k i cents) p) ≡ 0
-      → Paid n (changed n (Receipt k i cents) p .pays) words → TiersInOrder n a (with-entry (Receipt k i cents) words a)
+      → Paid n (changed n grouping (Receipt k i cents) p .pays) words → TiersInOrder n (retention n grouping) a (with-entry (Receipt k i cents) words a)
   receipt-in-order k i cents barred x e w =
       let f = receipt-passes n p barred i cents e in
       ⊎-elim
-      (λ q. absurd (omega (arith, x, subst (Staged n p a) q (t .staged) .unsettled)))
-      (λ q. late-in-order n p s a t words k i cents q f (subst (λ (c : Change). Paid n (c .pays) words) (changed-late n p k i cents q) w))
+      (λ q. absurd (omega (arith, x, subst (Staged n grouping p a) q (t .staged) .unsettled)))
+      (λ q. late-in-order n p s a t words k i cents q f (subst (λ (c : Change). Paid n (c .pays) words) (changed-late n grouping p k i cents q) w))
       (f .stage)
 
-  pub entry-in-order : (e : Entry) (barred : Bool) → refusal (periodChecks n barred e p) ≡ 0 → Paid n (changed n e p .pays) words
-      → isReceipt e ≡ true → 0 < a .settlements → TiersInOrder n a (with-entry e words a)
+  pub entry-in-order : (e : Entry) (barred : Bool) → refusal (periodChecks n barred e p) ≡ 0 → Paid n (changed n grouping e p .pays) words
+      → isReceipt e ≡ true → 0 < a .settlements → TiersInOrder n (retention n grouping) a (with-entry e words a)
   unfolding entryOf
   entry-in-order e barred z w r x =
-      of-kind (λ (e : Entry). refusal (periodChecks n barred e p) ≡ 0 → Paid n (changed n e p .pays) words → TiersInOrder n a (with-entry e words a)) 5 e
+      of-kind (λ (e : Entry). refusal (periodChecks n barred e p) ≡ 0 → Paid n (changed n grouping e p .pays) words → TiersInOrder n (retention n grouping) a (with-entry e words a)) 5 e
       (eqb-true (kindOf e) 5 r) (receipt-in-order (field e 0) (field e 1) (field e 2) barred x) z w

@@ -7,14 +7,16 @@ use lib.ListN.{set}
 use Rattle.exact.specs.Rows.{at, cells}
 use Rattle.exact.proofs.RowLaws.{cells-at}
 use Rattle.settlement.specs.Month.{Month, tierAt}
-use Rattle.settlement.specs.Notice.{retention, payable}
+use Rattle.settlement.specs.Notice.{payable}
+use Rattle.settlement.specs.Groups.{groupRetention}
 use Rattle.settlement.specs.Claims.{claim, arrears}
 use Rattle.settlement.specs.Settling.{paid}
 use Rattle.settlement.specs.Late.{fill, tiersOf, shortage}
 use Rattle.settlement.proofs.Laws.{shortage-cong}
+use Rattle.settlement.specs.declared.groups.Grouping.{Grouping}
 use Rattle.book.specs.rules.Periods.{monthOf, withReceipt, withSettlement, latePays, withLateReceipt}
-use Rattle.book.specs.rules.Valid.{Sound, AtStage, BeforeSettlement}
-use Rattle.book.specs.history.Log.{Accepted, Account, entered}
+use Rattle.book.specs.rules.Valid.{Sound, InBook, AtStage, BeforeSettlement}
+use Rattle.book.specs.history.Log.{Accepted, Account, entered, retention}
 use Rattle.book.specs.history.Log as log
 use Rattle.book.specs.history.Demand3.{TiersInOrder}
 use Rattle.book.specs.declared.Stage.the-variants.{Noticed, Settled}
@@ -22,30 +24,33 @@ use Rattle.book.specs.declared.entries.Entry.the-variants.{Receipt, Sett
 use Rattle.book.specs.declared.Period.{Period}
 use Rattle.book.proofs.rules.CellLaws.{raised-at, lowered-at}
 use Rattle.book.proofs.rules.Passing.{PassesReceipt}
-use Rattle.book.proofs.rules.SettlementLaws.{within-payable, fits-arrears, late-order}
+use Rattle.book.proofs.rules.SettlementLaws.{due-in-book, within-payable, fits-arrears, late-order}
 use Rattle.book.proofs.history.LogLaws.{month-still, before-unsettled, late-unsettled, before-settled, late-settled, received-grows}
 use Rattle.book.proofs.history.Reckoned.{to-is, claim-is}
 use Rattle.book.proofs.history.Tracking.{Unsettled, Since, Staged, Tracks, with-entry, Paid}
 
-module _ (n : ℕ) (p : Period) (s : Sound n p) (a : Account) (t : Tracks n p a) (words : List ℕ) where
+module _ (n : ℕ) {grouping : Grouping} (p : Period) (s : Sound n p) (a : Account) (t : Tracks n grouping p a) (words : List ℕ) where
   -- a settlement
-  module _ (k : ℕ) (q : p .stage ≡ Noticed) (w : Paid n (withSettlement n p .pays) words) where
+  module _ (b : InBook n grouping p) (k : ℕ) (q : p .stage ≡ Noticed) (w : Paid n (withSettlement n (groupRetention (monthOf n p) grouping) p .pays) words) where
     abbrev m : Month
     m = monthOf n p
 
     abbrev x : Accepted
     x = record { entry = Settle k; words = words }
 
-    abbrev b : Account
-    b = entered x a
+    abbrev A : ℕ → ℕ
+    A = groupRetention m grouping
+
+    abbrev after : Account
+    after = entered x a
 
     u : Unsettled a
-    u = subst (Staged n p a) q (t .staged)
+    u = subst (Staged n grouping p a) q (t .staged)
 
-    before-all : at (p .received) ≡ b .before
+    before-all : at (p .received) ≡ after .before
     before-all = fun-ext (λ i. omega (arith, t .received i, u .none-late i, before-unsettled n x a i (u .unsettled)))
 
-    pub track-settle : Tracks n (withSettlement n p .period) (with-entry (Settle k) words a)
+    pub track-settle : Tracks n grouping (withSettlement n (groupRetention (monthOf n p) grouping) p .period) (with-entry (Settle k) words a)
     unfolding withSettlement entered
     track-settle = record {
       month = t .month ∙ month-still n x a (λ i. refl) (λ t i. refl);
@@ -53,15 +58,15 @@ module _ (n : ℕ) (p : Period) (s : Sound n p) (a : Account) (t : Tracks n p a)
       paid = λ i h. omega (arith, w i h, t .paid i h, f .nothing-paid i h);
       staged = record {
         settled = omega (arith, u .unsettled);
-        claims = ap (λ g. cells (claim m (retention m) g) n) before-all;
+        claims = ap (λ g. cells (claim m A g) n) before-all;
         arrears = λ i h. omega (
           arith,
-          cells-at (arrears m (retention m) (at (p .received))) n i h,
-          ap (λ g. arrears m (retention m) g i) before-all,
+          cells-at (arrears m A (at (p .received))) n i h,
+          ap (λ g. arrears m A g i) before-all,
           late-unsettled n x a i (u .unsettled),
           u .none-late i,
         );
-        within = λ i h. subst (λ g. g i ≤ payable m (retention m) i) before-all (within-payable n p s q i h);
+        within = λ i h. subst (λ g. g i ≤ payable m A i) before-all (within-payable n p s q (due-in-book n p b q) i h);
       };
     }
       where
@@ -76,20 +81,20 @@ module _ (n : ℕ) (p : Period) (s : Sound n p) (a : Account) (t : Tracks n p a)
     abbrev d : Account
     d = entered y a
 
-    since : Since n p a
-    since = subst (Staged n p a) q (t .staged)
+    since : Since n grouping p a
+    since = subst (Staged n grouping p a) q (t .staged)
 
     before-same : a .before ≡ d .before
     before-same = fun-ext (λ j. sym (before-settled n y a j (omega (arith, since .settled))))
 
     arrears-now : (j : ℕ) → j < n
-        → at (set (p .arrears) i (at (p .arrears) i - cents)) j + d .late j ≡ arrears (monthOf n p) (retention (monthOf n p)) (d .before) j
+        → at (set (p .arrears) i (at (p .arrears) i - cents)) j + d .late j ≡ arrears (monthOf n p) (groupRetention (monthOf n p) grouping) (d .before) j
     arrears-now j h = omega (
       arith,
       since .arrears j h,
       lowered-at (p .arrears) i cents (omega (arith, s .arrears-size, s .bounded .few, f .member)) (fits-arrears n p s q i cents f) j,
       late-settled n y a j (omega (arith, since .settled)),
-      ap (λ g. arrears (monthOf n p) (retention (monthOf n p)) g j) before-same,
+      ap (λ g. arrears (monthOf n p) (groupRetention (monthOf n p) grouping) g j) before-same,
     )
 
     paid-now : (j : ℕ) → j < n → at (withLateReceipt n p i cents .period .paid) j ≡ d .paid j
@@ -105,7 +110,7 @@ module _ (n : ℕ) (p : Period) (s : Sound n p) (a : Account) (t : Tracks n p a)
     unfolding entered
     settled-now = omega (arith, since .settled)
 
-    pub track-late : Tracks n (withLateReceipt n p i cents .period) (with-entry (Receipt k i cents) words a)
+    pub track-late : Tracks n grouping (withLateReceipt n p i cents .period) (with-entry (Receipt k i cents) words a)
     unfolding withLateReceipt
     track-late = record {
       month = t .month ∙ month-still n y a (λ i. refl) (λ t i. refl);
@@ -116,24 +121,24 @@ module _ (n : ℕ) (p : Period) (s : Sound n p) (a : Account) (t : Tracks n p a)
         received-grows n y a j,
       );
       paid = paid-now;
-      staged = subst (Staged n (withLateReceipt n p i cents .period) d) (sym q) (record {
+      staged = subst (Staged n grouping (withLateReceipt n p i cents .period) d) (sym q) (record {
         settled = settled-now;
-        claims = since .claims ∙ ap (λ g. cells (claim (monthOf n p) (retention (monthOf n p)) g) n) before-same;
+        claims = since .claims ∙ ap (λ g. cells (claim (monthOf n p) (groupRetention (monthOf n p) grouping) g) n) before-same;
         arrears = arrears-now;
-        within = λ j h. subst (λ g. g j ≤ payable (monthOf n p) (retention (monthOf n p)) j) before-same (since .within j h);
+        within = λ j h. subst (λ g. g j ≤ payable (monthOf n p) (groupRetention (monthOf n p) grouping) j) before-same (since .within j h);
       });
     }
 
-    pub late-in-order : TiersInOrder n a (with-entry (Receipt k i cents) words a)
+    pub late-in-order : TiersInOrder n (retention n grouping) a (with-entry (Receipt k i cents) words a)
     unfolding withLateReceipt
     late-in-order u j lu lj more v l lv ll =
         let after : ℕ → ℕ = at (withLateReceipt n p i cents .period .paid) in
-        let now : Since n (withLateReceipt n p i cents .period) d = subst (Staged n (withLateReceipt n p i cents .period) d) q (track-late .staged) in
+        let now : Since n grouping (withLateReceipt n p i cents .period) d = subst (Staged n grouping (withLateReceipt n p i cents .period) d) q (track-late .staged) in
         let tiers-same : tierAt (p .to) ≡ d .to = to-is n (withLateReceipt n p i cents .period) d track-late in
         let gains : fill (tiersOf (tierAt (p .to)) j) (at (p .paid) j) u < fill (tiersOf (tierAt (p .to)) j) (after j) u
         = subst₂ (λ x y. fill (tiersOf (tierAt (p .to)) j) x u < fill (tiersOf (tierAt (p .to)) j) y u) (sym (t .paid j lj)) (sym (paid-now j lj))
         (subst (λ (to : ℕ → ℕ → ℕ). fill (tiersOf to j) (a .paid j) u < fill (tiersOf to j) (d .paid j) u) (sym tiers-same) more) in
-        subst (λ (to : ℕ → ℕ → ℕ). shortage to (log.claim n d) (d .paid) v l ≡ 0) tiers-same
-        (shortage-cong (tierAt (p .to)) (log.claim n d) (d .paid) (at (p .claim)) after v l
+        subst (λ (to : ℕ → ℕ → ℕ). shortage to (log.claim n (retention n grouping) d) (d .paid) v l ≡ 0) tiers-same
+        (shortage-cong (tierAt (p .to)) (log.claim n (retention n grouping) d) (d .paid) (at (p .claim)) after v l
         (sym (claim-is n (withLateReceipt n p i cents .period) d track-late now l ll)) (sym (paid-now l ll))
         ∙ late-order n p s q i cents f u j lu lj gains v l lv ll)

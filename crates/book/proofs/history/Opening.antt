@@ -10,6 +10,7 @@ use Rattle.exact.specs.Rows.{places, at}
 use Rattle.exact.proofs.Cases.{eq-or-ne}
 use Rattle.exact.proofs.RowLaws.{sum-cong}
 use Rattle.settlement.specs.Month.{tiers, tierAt}
+use Rattle.settlement.specs.declared.groups.Grouping.{Grouping}
 use Rattle.book.specs.layouts.Entries.{kindOf}
 use Rattle.book.specs.rules.Kinds.{periodOf, isOpen, isReceipt, isSettle, receiptCents}
 use Rattle.book.specs.rules.Periods.{zeros, fresh}
@@ -42,7 +43,7 @@ open-adds-nothing e o =
     let k = eqb-true (kindOf e) 1 o in
     record { by = λ i. rw k; to = λ t i. rw k; none-received = λ i. rw k; no-cents = rw k; no-receipt = rw k; no-settle = rw k }
 
-module _ (n highest : ℕ) (ps : List Period) (log : Log) (inv : Inv n highest ps log) (x : Accepted) (o : isOpen (x .entry) ≡ true)
+module _ (n : ℕ) {grouping : Grouping} (highest : ℕ) (ps : List Period) (log : Log) (inv : Inv n grouping highest ps log) (x : Accepted) (o : isOpen (x .entry) ≡ true)
     (above : highest < periodOf (x .entry)) (w : Paid n (zeros places) (x .words)) where
   abbrev k : ℕ
   k = periodOf (x .entry)
@@ -53,7 +54,7 @@ module _ (n highest : ℕ) (ps : List Period) (log : Log) (inv : Inv n highest p
   own : account k (x ∷ log) ≡ entered x nothing
   own = account-same k x log refl ∙ ap (entered x) (inv .above k above)
 
-  fresh-tracks : Tracks n (fresh k) (entered x nothing)
+  fresh-tracks : Tracks n grouping (fresh k) (entered x nothing)
   unfolding fresh entered nothing
   fresh-tracks = record {
     month = λ z. record { n = n; by = λ i. by i z; to = λ t i. to t i z };
@@ -72,39 +73,39 @@ module _ (n highest : ℕ) (ps : List Period) (log : Log) (inv : Inv n highest p
   unfolding entered nothing
   opened-once = rw o (omega arith)
 
-  fresh-kept : Kept n (x ∷ log) (fresh k)
+  fresh-kept : Kept n grouping (x ∷ log) (fresh k)
   unfolding fresh
   fresh-kept = record {
-    tracks = subst (Tracks n (fresh k)) (sym own) fresh-tracks;
+    tracks = subst (Tracks n grouping (fresh k)) (sym own) fresh-tracks;
     opened = ap (λ (a : Account). a .openings) own ∙ opened-once;
   }
 
   below : All (λ (q : Period). q .number < k) ps
   below = all-both (λ (q : Period). q .number ≤ highest) (λ (q : Period). q .number ≤ highest) _ (λ q u _. omega arith) ps (inv .tops) (inv .tops)
 
-  kept-other : (q : Period) → q .number < k → Kept n log q → Kept n (x ∷ log) q
+  kept-other : (q : Period) → q .number < k → Kept n grouping log q → Kept n grouping (x ∷ log) q
   kept-other q u c =
       let e = account-other (q .number) x log (λ e. omega arith) in
-      record { tracks = subst (Tracks n q) (sym e) (c .tracks); opened = ap (λ (a : Account). a .openings) e ∙ c .opened }
+      record { tracks = subst (Tracks n grouping q) (sym e) (c .tracks); opened = ap (λ (a : Account). a .openings) e ∙ c .opened }
 
-  known : (j : ℕ) → (account j (x ∷ log) ≡ nothing) ⊎ (Has j (numbers (ps ++ (fresh k ∷ []))) ⊎ Closed n (account j (x ∷ log)))
+  known : (j : ℕ) → (account j (x ∷ log) ≡ nothing) ⊎ (Has j (numbers (ps ++ (fresh k ∷ []))) ⊎ Closed n grouping (account j (x ∷ log)))
   unfolding fresh
   known j = ⊎-elim (λ e. inr (inl (subst (λ (j : ℕ). Has j (numbers (ps ++ (fresh k ∷ [])))) e (has-it (fresh k) [] ps)))) (λ ne. go ne (inv .known j)) (eq-or-ne k j)
     where
-      go : (k ≡ j → ⊥) → (account j log ≡ nothing) ⊎ (Has j (numbers ps) ⊎ Closed n (account j log))
-          → (account j (x ∷ log) ≡ nothing) ⊎ (Has j (numbers (ps ++ (fresh k ∷ []))) ⊎ Closed n (account j (x ∷ log)))
+      go : (k ≡ j → ⊥) → (account j log ≡ nothing) ⊎ (Has j (numbers ps) ⊎ Closed n grouping (account j log))
+          → (account j (x ∷ log) ≡ nothing) ⊎ (Has j (numbers (ps ++ (fresh k ∷ []))) ⊎ Closed n grouping (account j (x ∷ log)))
       go ne (inl q) = inl (account-other j x log ne ∙ q)
       go ne (inr (inl q)) = inr (inl (has-more (fresh k) j ps q))
-      go ne (inr (inr q)) = inr (inr (subst (Closed n) (sym (account-other j x log ne)) q))
+      go ne (inr (inr q)) = inr (inr (subst (Closed n grouping) (sym (account-other j x log ne)) q))
 
-  pub opens-inv : Inv n (periodOf (x .entry)) (ps ++ (fresh (periodOf (x .entry)) ∷ [])) (x ∷ log)
+  pub opens-inv : Inv n grouping (periodOf (x .entry)) (ps ++ (fresh (periodOf (x .entry)) ∷ [])) (x ∷ log)
   unfolding fresh moneyReceived moneyPaid heldIn
   opens-inv = record {
     rising = rising-more (fresh k) ps below (inv .rising);
     tops = all-join _ ps (fresh k ∷ [])
         (all-both (λ (q : Period). q .number < k) (λ (q : Period). q .number < k) (λ (q : Period). q .number ≤ k) (λ q u _. omega arith) ps below below)
         (omega arith, tt);
-    each = all-join (Kept n (x ∷ log)) ps (fresh k ∷ []) (all-both (λ (q : Period). q .number < k) (Kept n log) (Kept n (x ∷ log)) kept-other ps below (inv .each)) (fresh-kept, tt);
+    each = all-join (Kept n grouping (x ∷ log)) ps (fresh k ∷ []) (all-both (λ (q : Period). q .number < k) (Kept n grouping log) (Kept n grouping (x ∷ log)) kept-other ps below (inv .each)) (fresh-kept, tt);
     above = λ j h. account-other j x log (λ e. omega arith) ∙ inv .above j (omega arith);
     known = known;
     order = (λ j q r. absurd (true≢false (sym r ∙ d .no-receipt)), inv .order);

@@ -9,8 +9,10 @@ use lib.Dec.{eqb, eqb·suc-suc}
 use Rattle.exact.specs.Rows.{places, at, cells}
 use Rattle.exact.proofs.RowLaws.{filled-at}
 use Rattle.settlement.specs.Month.{Month, tiers, tierAt}
-use Rattle.settlement.specs.Notice.{retention, payable}
+use Rattle.settlement.specs.Notice.{payable}
+use Rattle.settlement.specs.Groups.{groupRetention}
 use Rattle.settlement.specs.Claims.{claim, arrears}
+use Rattle.settlement.specs.declared.groups.Grouping.{Grouping}
 use Rattle.book.specs.rules.Periods.{monthOf, zeros, raised, amounted, withNotice, withReceipt}
 use Rattle.book.specs.rules.Kinds.{isSettle}
 use Rattle.book.specs.rules.Step.{payoutWords}
@@ -31,22 +33,22 @@ pub record Unsettled (a : Account) : Type 0 where
   pub none-late : (i : ℕ) → a .late i ≡ 0
 
 -- from its settle entry on the period has the claims of step 1, and those arrears less the late receipts
-pub record Since (n : ℕ) (p : Period) (a : Account) : Type 0 where
+pub record Since (n : ℕ) (grouping : Grouping) (p : Period) (a : Account) : Type 0 where
   pub settled : a .settlements ≡ 1
-  pub claims : p .claim ≡ cells (claim (monthOf n p) (retention (monthOf n p)) (a .before)) n
-  pub arrears : (i : ℕ) → i < n → at (p .arrears) i + a .late i ≡ arrears (monthOf n p) (retention (monthOf n p)) (a .before) i
-  pub within : (i : ℕ) → i < n → a .before i ≤ payable (monthOf n p) (retention (monthOf n p)) i
+  pub claims : p .claim ≡ cells (claim (monthOf n p) (groupRetention (monthOf n p) grouping) (a .before)) n
+  pub arrears : (i : ℕ) → i < n → at (p .arrears) i + a .late i ≡ arrears (monthOf n p) (groupRetention (monthOf n p) grouping) (a .before) i
+  pub within : (i : ℕ) → i < n → a .before i ≤ payable (monthOf n p) (groupRetention (monthOf n p) grouping) i
 
-abbrev pub Staged : ℕ → Period → Account → Stage → Type 0
-Staged n p a Opened = Unsettled a
-Staged n p a Noticed = Unsettled a
-Staged n p a Settled = Since n p a
+abbrev pub Staged : ℕ → Grouping → Period → Account → Stage → Type 0
+Staged n grouping p a Opened = Unsettled a
+Staged n grouping p a Noticed = Unsettled a
+Staged n grouping p a Settled = Since n grouping p a
 
-pub record Tracks (n : ℕ) (p : Period) (a : Account) : Type 0 where
+pub record Tracks (n : ℕ) (grouping : Grouping) (p : Period) (a : Account) : Type 0 where
   pub month : monthOf n p ≡ monthIn n a
   pub received : (i : ℕ) → at (p .received) i ≡ a .before i + a .late i
   pub paid : (i : ℕ) → i < n → at (p .paid) i ≡ a .paid i
-  pub staged : Staged n p a (p .stage)
+  pub staged : Staged n grouping p a (p .stage)
 
 -- an account with one more entry, which left the words as they are
 abbrev pub with-entry : Entry → List ℕ → Account → Account
@@ -61,7 +63,7 @@ pub words-paid : (n : ℕ) (pays words : List ℕ) → Paid n pays (payoutWords 
 unfolding payoutWords
 words-paid n pays words i h = filled-at (at pays) n i words 0 h
 
-module _ (n : ℕ) (p : Period) (s : Sound n p) (a : Account) (t : Tracks n p a) (words : List ℕ) (w : Paid n (zeros places) words) where
+module _ (n : ℕ) {grouping : Grouping} (p : Period) (s : Sound n p) (a : Account) (t : Tracks n grouping p a) (words : List ℕ) (w : Paid n (zeros places) words) where
   -- an entry that pays nothing and settles nothing
   still-paid : (e : Entry) (i : ℕ) → i < n → at (p .paid) i ≡ with-entry e words a .paid i
   unfolding entered
@@ -74,13 +76,13 @@ module _ (n : ℕ) (p : Period) (s : Sound n p) (a : Account) (t : Tracks n p a)
     none-late = λ i. late-unsettled n (record { entry = e; words = words }) a i (u .unsettled) ∙ u .none-late i;
   }
 
-  pub track-notice : (k : ℕ) → p .stage ≡ Opened → Tracks n (withNotice n p) (with-entry (Notice k) words a)
+  pub track-notice : (k : ℕ) → p .stage ≡ Opened → Tracks n grouping (withNotice n grouping p) (with-entry (Notice k) words a)
   unfolding withNotice
   track-notice k q = record {
     month = t .month ∙ month-still n (record { entry = Notice k; words = words }) a (λ i. refl) (λ t i. refl);
     received = λ i. omega (arith, t .received i, received-grows n (record { entry = Notice k; words = words }) a i);
     paid = still-paid (Notice k);
-    staged = still-unsettled (Notice k) refl (subst (Staged n p a) q (t .staged));
+    staged = still-unsettled (Notice k) refl (subst (Staged n grouping p a) q (t .staged));
   }
 
   -- an amount, of either kind
@@ -135,18 +137,18 @@ module _ (n : ℕ) (p : Period) (s : Sound n p) (a : Account) (t : Tracks n p a)
         (month-to v (q .2) h (subst (λ (k : ℕ). Adds k (suc v)) (q .0) d))
 
     pub track-amount : (side tier : ℕ) → Placed side tier → PassesAmount n p i side c → Adds side tier
-        → Tracks n (amounted p i side tier c) (with-entry e words a)
+        → Tracks n grouping (amounted p i side tier c) (with-entry e words a)
     unfolding amounted
     track-amount side tier l f d = record {
       month = month-amount side tier l (f .member) d;
       received = λ j. omega (arith, t .received j, received-grows n (record { entry = e; words = words }) a j, d .no-receipt j);
       paid = still-paid e;
-      staged = subst (Staged n (amounted p i side tier c) (with-entry e words a)) (sym (f .stage))
-          (still-unsettled e (d .no-settle) (subst (Staged n p a) (f .stage) (t .staged)));
+      staged = subst (Staged n grouping (amounted p i side tier c) (with-entry e words a)) (sym (f .stage))
+          (still-unsettled e (d .no-settle) (subst (Staged n grouping p a) (f .stage) (t .staged)));
     }
 
   -- a receipt before settlement
-  pub track-receipt : (k i cents : ℕ) → p .stage ≡ Noticed → i < n → Tracks n (withReceipt p i cents) (with-entry (Receipt k i cents) words a)
+  pub track-receipt : (k i cents : ℕ) → p .stage ≡ Noticed → i < n → Tracks n grouping (withReceipt p i cents) (with-entry (Receipt k i cents) words a)
   unfolding withReceipt
   track-receipt k i cents q h = record {
     month = t .month ∙ month-still n (record { entry = Receipt k i cents; words = words }) a (λ i. refl) (λ t i. refl);
@@ -157,6 +159,6 @@ module _ (n : ℕ) (p : Period) (s : Sound n p) (a : Account) (t : Tracks n p a)
       received-grows n (record { entry = Receipt k i cents; words = words }) a j,
     );
     paid = still-paid (Receipt k i cents);
-    staged = subst (Staged n (withReceipt p i cents) (with-entry (Receipt k i cents) words a)) (sym q)
-        (still-unsettled (Receipt k i cents) refl (subst (Staged n p a) q (t .staged)));
+    staged = subst (Staged n grouping (withReceipt p i cents) (with-entry (Receipt k i cents) words a)) (sym q)
+        (still-unsettled (Receipt k i cents) refl (subst (Staged n grouping p a) q (t .staged)));
   }

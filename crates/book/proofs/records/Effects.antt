@@ -12,6 +12,7 @@ use lib.Seq.{set-getD}
 use Rattle.exact.specs.Rows.{at, sum, filled}
 use Rattle.exact.proofs.Cases.{eq-or-ne}
 use Rattle.exact.proofs.RowLaws.{sum-cong, filled-at}
+use Rattle.settlement.specs.declared.groups.Grouping.{Grouping}
 use Rattle.book.specs.Checks.{refusal}
 use Rattle.book.specs.rules.Kinds.{receiptCents}
 use Rattle.book.specs.rules.Periods.{leaves, changed}
@@ -28,20 +29,20 @@ use Rattle.book.proofs.records.Packing.{read-in-book, put, stored}
 use Rattle.book.proofs.records.Replies.{reply-refused, accepts}
 use Rattle.book.proofs.records.Named.{Found, found-sound, found-checks, held-fits, held-within, Passed, passed-checks, passed-accepted, passed-changes, held-stays, held-leaves}
 
-module _ (n : ℕ) (e : Entry) (barred : Bool) (p : Period) (held : ℕ) (w : List ℕ) where
-  pub effect-accepted : refusal (periodChecks n barred e p) ≡ 0 → effect n e barred p held w ≡ record {
+module _ (n : ℕ) (grouping : Grouping) (e : Entry) (barred : Bool) (p : Period) (held : ℕ) (w : List ℕ) where
+  pub effect-accepted : refusal (periodChecks n barred e p) ≡ 0 → effect n grouping e barred p held w ≡ record {
     answer = 0;
-    rounds = changed n e p .rounds;
-    period = changed n e p .period;
-    held = held + receiptCents e - sum (at (changed n e p .pays)) n;
-    paid = sum (at (changed n e p .pays)) n;
-    words = payoutWords n (changed n e p .pays) w;
+    rounds = changed n grouping e p .rounds;
+    period = changed n grouping e p .period;
+    held = held + receiptCents e - sum (at (changed n grouping e p .pays)) n;
+    paid = sum (at (changed n grouping e p .pays)) n;
+    words = payoutWords n (changed n grouping e p .pays) w;
   }
   unfolding effect
   effect-accepted h = rw (eq-eqb (refusal (periodChecks n barred e p)) 0 h)
 
   pub effect-refused : (refusal (periodChecks n barred e p) ≡ 0 → ⊥)
-      → effect n e barred p held w ≡ record { answer = refusal (periodChecks n barred e p); rounds = 0; period = p; held = held; paid = 0; words = w }
+      → effect n grouping e barred p held w ≡ record { answer = refusal (periodChecks n barred e p); rounds = 0; period = p; held = held; paid = 0; words = w }
   unfolding effect
   effect-refused h = rw (ne-eqb (refusal (periodChecks n barred e p)) 0 h)
 
@@ -54,6 +55,9 @@ module _ {b : Book} {e : Entry} {w : List ℕ} {j : ℕ} (f : Found b e w j) whe
   abbrev n : ℕ
   n = b .n
 
+  abbrev grouping : Grouping
+  grouping = b .grouping
+
   abbrev here : Period
   here = getD (b .periods) j noPeriod
 
@@ -61,21 +65,21 @@ module _ {b : Book} {e : Entry} {w : List ℕ} {j : ℕ} (f : Found b e w j) whe
   bar = barring e (view b .periods)
 
   -- a fact about the effect x, from those of an accepted and of a refused entry
-  module _ (x : Effect) (q : x ≡ effect (b .n) e (barring e (view b .periods)) (getD (b .periods) j noPeriod) (b .held) w) where
+  module _ (x : Effect) (q : x ≡ effect (b .n) (b .grouping) e (barring e (view b .periods)) (getD (b .periods) j noPeriod) (b .held) w) where
     of-effect : (P : Effect → Type 0)
         → (Passed b e w j → P (record {
           answer = 0;
-          rounds = changed n e here .rounds;
-          period = changed n e here .period;
-          held = b .held + receiptCents e - sum (at (changed n e here .pays)) n;
-          paid = sum (at (changed n e here .pays)) n;
-          words = payoutWords n (changed n e here .pays) w;
+          rounds = changed n grouping e here .rounds;
+          period = changed n grouping e here .period;
+          held = b .held + receiptCents e - sum (at (changed n grouping e here .pays)) n;
+          paid = sum (at (changed n grouping e here .pays)) n;
+          words = payoutWords n (changed n grouping e here .pays) w;
         }))
         → ((refusal (periodChecks n bar e here) ≡ 0 → ⊥) → P (record { answer = refusal (periodChecks n bar e here); rounds = 0; period = here; held = b .held; paid = 0; words = w }))
         → P x
     of-effect P taken left = subst P (sym q) (⊎-elim
-        (λ h. subst P (sym (effect-accepted n e bar here (b .held) w h)) (taken (record { found = f; passed = h })))
-        (λ h. subst P (sym (effect-refused n e bar here (b .held) w h)) (left h))
+        (λ h. subst P (sym (effect-accepted n grouping e bar here (b .held) w h)) (taken (record { found = f; passed = h })))
+        (λ h. subst P (sym (effect-refused n grouping e bar here (b .held) w h)) (left h))
         (eq-or-ne (refusal (periodChecks n bar e here)) 0))
 
     stays-here : leaves n here ≡ true → ⊥
@@ -91,17 +95,17 @@ module _ {b : Book} {e : Entry} {w : List ℕ} {j : ℕ} (f : Found b e w j) whe
         (λ x. leaves n (x .period) ≡ false → record { answer = x .answer; rounds = x .rounds; book = put b j (x .period) (x .held); words = x .words } ≡ reply b (record { entry = e; words = w }))
         (λ g l. accepts (f .valid) e w _ _ (passed-checks g) (passed-accepted g) (λ z. record {
           answer = 0;
-          rounds = changed n e here .rounds;
+          rounds = changed n grouping e here .rounds;
           book = (
-              stored (f .valid) j (changed n e here .period) (b .held + receiptCents e - sum (at (changed n e here .pays)) n) (f .used) (omega (arith, held-stays g))
-              ∙ ap pack (sym (stored-stays (view b) j (changed n e here .period) l))
+              stored (f .valid) j (changed n grouping e here .period) (b .held + receiptCents e - sum (at (changed n grouping e here .pays)) n) (f .used) (omega (arith, held-stays g))
+              ∙ ap pack (sym (stored-stays (view b) j (changed n grouping e here .period) l))
               ) z;
-          words = payoutWords n (changed n e here .pays) w;
+          words = payoutWords n (changed n grouping e here .pays) w;
         }))
         (λ h l. (λ z. record {
           answer = sym (found-checks f) z;
           rounds = 0;
-          book = record { n = n; highest = b .highest; count = b .count; held = b .held; periods = set-getD (b .periods) j noPeriod z };
+          book = record { n = n; grouping = grouping; highest = b .highest; count = b .count; held = b .held; periods = set-getD (b .periods) j noPeriod z };
           words = w;
         })
         ∙ reply-refused (f .valid) e w (λ z. h (sym (found-checks f) ∙ z)))
@@ -118,9 +122,9 @@ module _ {b : Book} {e : Entry} {w : List ℕ} {j : ℕ} (f : Found b e w j) whe
         (λ x. leaves n (x .period) ≡ true → record { answer = x .answer; rounds = x .rounds; book = pack (removed (view b) j); words = x .words } ≡ reply b (record { entry = e; words = w }))
         (λ g l. accepts (f .valid) e w _ _ (passed-checks g) (passed-accepted g) (λ z. record {
           answer = 0;
-          rounds = changed n e here .rounds;
-          book = ap pack (sym (stored-leaves (view b) j (changed n e here .period) l)) z;
-          words = payoutWords n (changed n e here .pays) w;
+          rounds = changed n grouping e here .rounds;
+          book = ap pack (sym (stored-leaves (view b) j (changed n grouping e here .period) l)) z;
+          words = payoutWords n (changed n grouping e here .pays) w;
         }))
         (λ h l. absurd (stays-here l))
 
@@ -140,16 +144,17 @@ module _ {b : Book} {e : Entry} {w : List ℕ} {j : ℕ} (f : Found b e w j) whe
     reply-paid =
         let p = reply-parts in
         of-effect (λ x. x .paid ≡ cond (eqb (x .answer) 0) (sum (at (x .words)) n) 0)
-        (λ _. sym (words-sum n (changed n e here .pays) w))
+        (λ _. sym (words-sum n (changed n grouping e here .pays) w))
         (λ h. sym (rw (ne-eqb (refusal (periodChecks n bar e here)) 0 h) refl))
         ∙ (λ z. cond (eqb (p .0 z) 0) (sum (at (p .1 z)) n) 0)
 
-  pub found-affects : Affects (b .n) e (getD (b .periods) j noPeriod) (b .held) w
+  pub found-affects : Affects (b .n) (b .grouping) e (getD (b .periods) j noPeriod) (b .held) w
   found-affects = record {
     many = f .valid .fit .many;
     enough = f .entered .enough;
     not-open = f .not-open;
     fields = f .entered .fields;
+    grouped = f .valid .fit .grouped;
     in-book = read-in-book (f .valid) j (f .used);
     within = held-within f;
     fits = held-fits f;

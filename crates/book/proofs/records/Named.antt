@@ -70,7 +70,7 @@ module _ {b : Book} {e : Entry} {w : List ℕ} {j : ℕ} (f : Found b e w j) whe
   held-fits = omega (
     arith,
     kept-held (f .valid),
-    held-bound (b .n) (view b .periods) (f .valid .fit .each),
+    held-bound (b .n) (b .grouping) (view b .periods) (f .valid .fit .each),
     f .valid .fit .few,
     cents-within e (f .entered .fields),
   )
@@ -98,26 +98,26 @@ module _ {b : Book} {e : Entry} {w : List ℕ} {j : ℕ} (f : Passed b e w j) wh
   pub passed-checks : refusal (checks (view b) (record { entry = e; words = w })) ≡ 0
   passed-checks = found-checks (f .found) ∙ f .passed
 
-  pub passed-accepted : accepted (view b) (record { entry = e; words = w }) ≡ moved (view b) j (changed (b .n) e (getD (b .periods) j noPeriod)) w
+  pub passed-accepted : accepted (view b) (record { entry = e; words = w }) ≡ moved (view b) j (changed (b .n) (b .grouping) e (getD (b .periods) j noPeriod)) w
   passed-accepted =
       accepted-names (view b) x names
-      ∙ subst₂ (λ k q. moved (view b) (find (periodOf e) (view b .periods)) (changed (b .n) e (periodAt (periodOf e) (view b .periods))) w ≡ moved (view b) k (changed (b .n) e q) w)
+      ∙ subst₂ (λ k q. moved (view b) (find (periodOf e) (view b .periods)) (changed (b .n) (b .grouping) e (periodAt (periodOf e) (view b .periods))) w ≡ moved (view b) k (changed (b .n) (b .grouping) e q) w)
       (sym (f .found .at-place)) (sym (same (f .found))) refl
 
-  pub passed-changes : Changes (b .n) (receiptCents e) (getD (b .periods) j noPeriod) (changed (b .n) e (getD (b .periods) j noPeriod))
-  passed-changes = subst (λ (q : Period). Changes (b .n) (receiptCents e) q (changed (b .n) e q)) (sym (same (f .found)))
+  pub passed-changes : Changes (b .n) (receiptCents e) (getD (b .periods) j noPeriod) (changed (b .n) (b .grouping) e (getD (b .periods) j noPeriod))
+  passed-changes = subst (λ (q : Period). Changes (b .n) (receiptCents e) q (changed (b .n) (b .grouping) e q)) (sym (same (f .found)))
       (named-changes (view b) x (f .found .valid .fit) (f .found .entered) names)
 
   -- the cents held, where the period stays and where it leaves
-  pub held-stays : let c = changed (b .n) e (getD (b .periods) j noPeriod) in
+  pub held-stays : let c = changed (b .n) (b .grouping) e (getD (b .periods) j noPeriod) in
       heldIn (b .n) (replaced (view b) j (c .period) .periods) + sum (at (c .pays)) (b .n) ≡ b .held + receiptCents e
   held-stays = subst₂
-      (λ k q. heldIn (b .n) (replaced (view b) k (changed (b .n) e q .period) .periods) + sum (at (changed (b .n) e q .pays)) (b .n) ≡ b .held + receiptCents e)
+      (λ k q. heldIn (b .n) (replaced (view b) k (changed (b .n) (b .grouping) e q .period) .periods) + sum (at (changed (b .n) (b .grouping) e q .pays)) (b .n) ≡ b .held + receiptCents e)
       (sym (f .found .at-place)) (sym (same (f .found))) (omega (arith, kept-held (f .found .valid), held-replaced (f .found .valid) e w (f .found .entered) names))
 
-  pub held-leaves : let c = changed (b .n) e (getD (b .periods) j noPeriod) in leaves (b .n) (c .period) ≡ true
+  pub held-leaves : let c = changed (b .n) (b .grouping) e (getD (b .periods) j noPeriod) in leaves (b .n) (c .period) ≡ true
       → heldIn (b .n) (removed (view b) j .periods) + sum (at (c .pays)) (b .n) ≡ b .held + receiptCents e
   held-leaves = subst₂
-      (λ k q. leaves (b .n) (changed (b .n) e q .period) ≡ true
-      → heldIn (b .n) (removed (view b) k .periods) + sum (at (changed (b .n) e q .pays)) (b .n) ≡ b .held + receiptCents e)
+      (λ k q. leaves (b .n) (changed (b .n) (b .grouping) e q .period) ≡ true
+      → heldIn (b .n) (removed (view b) k .periods) + sum (at (changed (b .n) (b .grouping) e q .pays)) (b .n) ≡ b .held + receiptCents e)
       (sym (f .found .at-place)) (sym (same (f .found))) (λ l. omega (arith, kept-held (f .found .valid), held-removed (f .found .valid) e w (f .found .entered) names l))

@@ -12,6 +12,7 @@ use lib.Dec.{ltb}
 use lib.ListN.{length, getD, take, drop, set, replicate, length-append, length-set, drop-of-length-le, getD-replicate}
 use lib.Seq.{split-at, set-split, set-append-left, set-append-seam, set-at, getD-take, length-take-le, drop-cons, getD-append-add}
 use Rattle.exact.proofs.Cases.{cases, le-or-lt}
+use Rattle.settlement.specs.declared.groups.Grouping.{Grouping}
 use Rattle.book.specs.rules.Periods.{fresh}
 use Rattle.book.specs.rules.State.{State, view, pack, mostPeriods, centsHeld, heldIn, find, noPeriod, arrearsBefore, earlierArrears, replaced, removed, added}
 use Rattle.book.specs.rules.Valid.{All, InBook, Valid}
@@ -48,8 +49,8 @@ module _ {b : Book} (v : Valid b) where
     pub read-at : getD (b .periods) k noPeriod ≡ getD (view b .periods) k noPeriod
     read-at = sym (getD-take (b .count) (b .periods) k noPeriod h)
 
-    pub read-in-book : InBook (b .n) (getD (b .periods) k noPeriod)
-    read-in-book = subst (InBook (b .n)) (sym read-at) (all-at (InBook (b .n)) (view b .periods) k noPeriod (omega (arith, count-is)) (v .fit .each))
+    pub read-in-book : InBook (b .n) (b .grouping) (getD (b .periods) k noPeriod)
+    read-in-book = subst (InBook (b .n) (b .grouping)) (sym read-at) (all-at (InBook (b .n) (b .grouping)) (view b .periods) k noPeriod (omega (arith, count-is)) (v .fit .each))
 
   -- a place that is not in use
   pub read-blank : (k : ℕ) → b .count ≤ k → k < mostPeriods → getD (b .periods) k noPeriod ≡ fresh 0
@@ -140,14 +141,15 @@ slid (y ∷ ys) rest pre x k e =
 
 -- a store, a new period, and a period that leaves, in the record; `held` is what the book then holds
 abbrev pub put : Book → ℕ → Period → ℕ → Book
-put b j p held = record { n = b .n; highest = b .highest; count = b .count; held = held; periods = set (b .periods) j p }
+put b j p held = record { n = b .n; grouping = b .grouping; highest = b .highest; count = b .count; held = held; periods = set (b .periods) j p }
 
 abbrev pub push : Book → Period → Book
-push b p = record { n = b .n; highest = p .number; count = b .count + 1; held = b .held; periods = set (b .periods) (b .count) p }
+push b p = record { n = b .n; grouping = b .grouping; highest = p .number; count = b .count + 1; held = b .held; periods = set (b .periods) (b .count) p }
 
 abbrev pub drops : Book → ℕ → ℕ → Book
 drops b j held = record {
   n = b .n;
+  grouping = b .grouping;
   highest = b .highest;
   count = b .count - 1;
   held = held;
@@ -176,7 +178,7 @@ module _ (s : State) where
         append-assoc ps (p ∷ []) (replicate (mostPeriods - (length ps + 1)) (fresh 0)),
       )
 
-module _ (n highest : ℕ) (pre ys : List Period) (x : Period) (few : length (pre ++ x ∷ ys) ≤ mostPeriods) where
+module _ (n : ℕ) (grouping : Grouping) (highest : ℕ) (pre ys : List Period) (x : Period) (few : length (pre ++ x ∷ ys) ≤ mostPeriods) where
   count-one : length (pre ++ x ∷ ys) ≡ suc (length pre + length ys)
   count-one = length-append pre (x ∷ ys) ∙ omega arith
 
@@ -190,12 +192,12 @@ module _ (n highest : ℕ) (pre ys : List Period) (x : Period) (few : length (pr
       rw (e, d, m, append-assoc pre (x ∷ ys) r)
       (rw (slid ys r pre x (length pre) refl, ← append-assoc pre ys) (set-at (pre ++ ys) _ r (fresh 0) (length (pre ++ ys)) refl))
 
-  drops-pack : drops (pack (record { n = n; highest = highest; periods = pre ++ x ∷ ys })) (length pre) (heldIn n (pre ++ ys))
-      ≡ pack (record { n = n; highest = highest; periods = pre ++ ys })
+  drops-pack : drops (pack (record { n = n; grouping = grouping; highest = highest; periods = pre ++ x ∷ ys })) (length pre) (heldIn n (pre ++ ys))
+      ≡ pack (record { n = n; grouping = grouping; highest = highest; periods = pre ++ ys })
   unfolding pack
   drops-pack =
       let d : length (pre ++ x ∷ ys) - 1 ≡ length (pre ++ ys) = omega (arith, count-one, length-append pre ys) in
-      λ z. record { n = n; highest = highest; count = d z; held = heldIn n (pre ++ ys); periods = left-rows z }
+      λ z. record { n = n; grouping = grouping; highest = highest; count = d z; held = heldIn n (pre ++ ys); periods = left-rows z }
 
 module _ {b : Book} (v : Valid b) where
   pub stored : (j : ℕ) (p : Period) (held : ℕ) → j < b .count → held ≡ heldIn (b .n) (replaced (view b) j p .periods) → put b j p held ≡ pack (replaced (view b) j p)
@@ -211,5 +213,5 @@ module _ {b : Book} (v : Valid b) where
       let l : j < length ps = omega (arith, count-is v) in
       let e = split-at ps j noPeriod l in
       ap₂ (λ (x : Book) k. drops x j k) (v .packed) q
-      ∙ ap₂ (λ (q : List Period) i. drops (pack (record { n = b .n; highest = b .highest; periods = q })) i (heldIn (b .n) (take j ps ++ drop (suc j) ps))) e (sym (length-take-le j ps (omega arith)))
-      ∙ drops-pack (b .n) (b .highest) (take j ps) (drop (suc j) ps) (getD ps j noPeriod) (subst (λ (q : List Period). length q ≤ mostPeriods) e (v .fit .few))
+      ∙ ap₂ (λ (q : List Period) i. drops (pack (record { n = b .n; grouping = b .grouping; highest = b .highest; periods = q })) i (heldIn (b .n) (take j ps ++ drop (suc j) ps))) e (sym (length-take-le j ps (omega arith)))
+      ∙ drops-pack (b .n) (b .grouping) (b .highest) (take j ps) (drop (suc j) ps) (getD ps j noPeriod) (subst (λ (q : List Period). length q ≤ mostPeriods) e (v .fit .few))

@@ -90,9 +90,9 @@ module _ {b : Book} (v : Valid b) (e : Entry) (w : List ℕ) where
     p = periodAt (periodOf e) (view b .periods)
 
     abbrev p′ : Period
-    p′ = changed (b .n) e p .period
+    p′ = changed (b .n) (b .grouping) e p .period
 
-    d : Changes (b .n) (receiptCents e) p (changed (b .n) e p)
+    d : Changes (b .n) (receiptCents e) p (changed (b .n) (b .grouping) e p)
     d = named-changes (view b) x (v .fit) i o
 
     all : heldIn (b .n) (view b .periods) ≡ heldIn (b .n) (take k (view b .periods)) + (holds (b .n) p + heldIn (b .n) (drop (suc k) (view b .periods)))
@@ -100,24 +100,24 @@ module _ {b : Book} (v : Valid b) (e : Entry) (w : List ℕ) where
     all = ap (heldIn (b .n)) (find-split (periodOf e) (view b .periods) (o .found)) ∙ held-join (b .n) (take k (view b .periods)) (p ∷ drop (suc k) (view b .periods))
 
     pub held-replaced : let p = periodAt (periodOf e) (view b .periods) in
-        heldIn (b .n) (replaced (view b) (find (periodOf e) (view b .periods)) (changed (b .n) e p .period) .periods) + sum (at (changed (b .n) e p .pays)) (b .n)
+        heldIn (b .n) (replaced (view b) (find (periodOf e) (view b .periods)) (changed (b .n) (b .grouping) e p .period) .periods) + sum (at (changed (b .n) (b .grouping) e p .pays)) (b .n)
         ≡ heldIn (b .n) (view b .periods) + receiptCents e
     unfolding replaced heldIn
     held-replaced = omega (
       arith,
       all,
       held-join (b .n) (take k (view b .periods)) (p′ ∷ drop (suc k) (view b .periods)),
-      change-cents (b .n) p (named-in-book (view b) x (v .fit) i o .sound) (receiptCents e) (changed (b .n) e p) d,
+      change-cents (b .n) p (named-in-book (view b) x (v .fit) i o .sound) (receiptCents e) (changed (b .n) (b .grouping) e p) d,
     )
 
-    pub held-removed : let p = periodAt (periodOf e) (view b .periods) in leaves (b .n) (changed (b .n) e p .period) ≡ true
-        → heldIn (b .n) (removed (view b) (find (periodOf e) (view b .periods)) .periods) + sum (at (changed (b .n) e p .pays)) (b .n)
+    pub held-removed : let p = periodAt (periodOf e) (view b .periods) in leaves (b .n) (changed (b .n) (b .grouping) e p .period) ≡ true
+        → heldIn (b .n) (removed (view b) (find (periodOf e) (view b .periods)) .periods) + sum (at (changed (b .n) (b .grouping) e p .pays)) (b .n)
         ≡ heldIn (b .n) (view b .periods) + receiptCents e
     unfolding removed
     held-removed l = omega (
       arith,
       all,
       held-join (b .n) (take k (view b .periods)) (drop (suc k) (view b .periods)),
-      change-cents (b .n) p (named-in-book (view b) x (v .fit) i o .sound) (receiptCents e) (changed (b .n) e p) d,
-      left-empty (b .n) p (named-in-book (view b) x (v .fit) i o .sound) (receiptCents e) (changed (b .n) e p) d l,
+      change-cents (b .n) p (named-in-book (view b) x (v .fit) i o .sound) (receiptCents e) (changed (b .n) (b .grouping) e p) d,
+      left-empty (b .n) p (named-in-book (view b) x (v .fit) i o .sound) (receiptCents e) (changed (b .n) (b .grouping) e p) d l,
     )

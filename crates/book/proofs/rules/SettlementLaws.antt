@@ -8,7 +8,9 @@ use Rattle.exact.specs.Rows.{at, sum, cells}
 use Rattle.exact.proofs.RowLaws.{sum-zero, sum-add, sum-cong, cells-at, cells-length, Holds, holds, sum-holds}
 use Rattle.exact.proofs.Shares.{Near}
 use Rattle.settlement.specs.Month.{Month, tiers, tierAt}
-use Rattle.settlement.specs.Notice.{retention, payable}
+use Rattle.settlement.specs.Notice.{payable, Due}
+use Rattle.settlement.specs.Groups.{groupRetention}
+use Rattle.settlement.specs.declared.groups.Grouping.{Grouping}
 use Rattle.settlement.specs.Claims.{claim, arrears}
 use Rattle.settlement.specs.Settling.{paid, held}
 use Rattle.settlement.specs.Late.{fill, tiersOf, shortage, latePayment}
@@ -16,20 +18,24 @@ use Rattle.settlement.proofs.Laws.{retention-sound, claim-le, claim-total, paid
 use Rattle.book.specs.rules.Periods.{monthOf, sideTotal, raised, withReceipt, withSettlement, latePays, withLateReceipt}
 use Rattle.book.specs.rules.Periods as period
 use Rattle.book.specs.rules.Refusals.{receivable}
-use Rattle.book.specs.rules.Valid.{Sound, AtStage, BeforeSettlement, AfterSettlement}
+use Rattle.book.specs.rules.Valid.{Sound, InBook, AtStage, BeforeSettlement, AfterSettlement}
 use Rattle.book.specs.declared.Stage.the-variants.{Noticed, Settled}
 use Rattle.book.specs.declared.Period.{Period}
 use Rattle.book.proofs.rules.CellLaws.{raised-length, raised-sum, lowered-sum}
 use Rattle.book.proofs.rules.Passing.{PassesReceipt}
 use Rattle.book.proofs.rules.ChangeLaws.{Changes, left-settled, paid-within}
 
--- a settlement
-module _ (n : ℕ) (p : Period) (s : Sound n p) (noticed : p .stage ≡ Noticed) where
+-- until settlement the payable row of a period in the book comes from retention over the book's groups
+abbrev pub due-in-book : (n : ℕ) {grouping : Grouping} (p : Period) → InBook n grouping p → p .stage ≡ Noticed → Due (monthOf n p) (p .payable)
+due-in-book n {grouping} p b q = record { retained = groupRetention (monthOf n p) grouping; sound = retention-sound (monthOf n p) grouping; row = b .row q }
+
+-- a settlement, by whatever retention A the payable row has come from
+module _ (n : ℕ) (p : Period) (s : Sound n p) (noticed : p .stage ≡ Noticed) (due : Due (monthOf n p) (p .payable)) where
   abbrev m : Month
   m = monthOf n p
 
   abbrev A : ℕ → ℕ
-  A = retention m
+  A = due .retained
 
   abbrev r : ℕ → ℕ
   r = at (p .received)
@@ -37,16 +43,16 @@ module _ (n : ℕ) (p : Period) (s : Sound n p) (noticed : p .stage ≡ Noticed)
   before : BeforeSettlement n p
   before = subst (AtStage n p) noticed (s .at-stage)
 
-  pub within-payable : (i : ℕ) → i < n → at (p .received) i ≤ payable (monthOf n p) (retention (monthOf n p)) i
-  within-payable i h = omega (arith, before .within i h, ap (λ (l : List ℕ). at l i) (before .row), cells-at (payable m A) n i h)
+  pub within-payable : (i : ℕ) → i < n → at (p .received) i ≤ payable (monthOf n p) (due .retained) i
+  within-payable i h = omega (arith, before .within i h, ap (λ (l : List ℕ). at l i) (due .row), cells-at (payable m A) n i h)
 
   claims : Holds (cells (claim m A r) n) (claim m A r) n
   claims = holds (claim m A r) n refl
 
   settles-full : sum (at (cells (arrears m A r) n)) n ≡ 0 → (i : ℕ) → i < n → at (cells (paid m A r) n) i ≡ at (cells (claim m A r) n) i
-  settles-full z i h = omega (arith, cells-at (claim m A r) n i h, cells-at (paid m A r) n i h, paid-full m A r (retention-sound m) (omega (arith, z, sum-holds (holds (arrears m A r) n refl))) i)
+  settles-full z i h = omega (arith, cells-at (claim m A r) n i h, cells-at (paid m A r) n i h, paid-full m A r (due .sound) (omega (arith, z, sum-holds (holds (arrears m A r) n refl))) i)
 
-  pub settle-changes : Changes n 0 p (withSettlement n p)
+  pub settle-changes : Changes n 0 p (withSettlement n (due .retained) p)
   unfolding withSettlement sideTotal
   settle-changes = record {
     sound = record {
@@ -58,17 +64,17 @@ module _ (n : ℕ) (p : Period) (s : Sound n p) (noticed : p .stage ≡ Noticed)
       kept = s .kept;
       bounded = s .bounded;
       at-stage = record {
-        claim-le = λ i h. omega (arith, cells-at (claim m A r) n i h, claim-le m A r (retention-sound m) i);
-        paid-le = λ i h. omega (arith, cells-at (claim m A r) n i h, cells-at (paid m A r) n i h, paid-le m A r (retention-sound m) i);
-        balance = omega (arith, sum-holds claims, sum-holds (holds (arrears m A r) n refl), claim-total m A r (retention-sound m) (before .equal) within-payable);
-        paid-within = omega (arith, sum-holds (holds (paid m A r) n refl), held-exact m A r (retention-sound m) (before .equal) within-payable);
-        held-bound = omega (arith, sum-holds (holds (paid m A r) n refl), held-exact m A r (retention-sound m) (before .equal) within-payable, held-le m A r (retention-sound m) (before .equal) within-payable);
+        claim-le = λ i h. omega (arith, cells-at (claim m A r) n i h, claim-le m A r (due .sound) i);
+        paid-le = λ i h. omega (arith, cells-at (claim m A r) n i h, cells-at (paid m A r) n i h, paid-le m A r (due .sound) i);
+        balance = omega (arith, sum-holds claims, sum-holds (holds (arrears m A r) n refl), claim-total m A r (due .sound) (before .equal) within-payable);
+        paid-within = omega (arith, sum-holds (holds (paid m A r) n refl), held-exact m A r (due .sound) (before .equal) within-payable);
+        held-bound = omega (arith, sum-holds (holds (paid m A r) n refl), held-exact m A r (due .sound) (before .equal) within-payable, held-le m A r (due .sound) (before .equal) within-payable);
       };
     };
     number = refl;
     received = omega arith;
     paid = omega (arith, sum-zero (at (p .paid)) n (before .nothing-paid));
-    full = λ l. settles-full (left-settled n (withSettlement n p .period) l .1);
+    full = λ l. settles-full (left-settled n (withSettlement n A p .period) l .1);
   }
 
 -- a late receipt of so many cents from i

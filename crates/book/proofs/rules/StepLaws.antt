@@ -74,7 +74,7 @@ module _ (s : State) (x : Input) where
   accepted-opens o = rw (o .is-open)
 
   pub accepted-names : Names → accepted s x
-      ≡ moved s (find (periodOf (x .entry)) (s .periods)) (changed (s .n) (x .entry) (periodAt (periodOf (x .entry)) (s .periods))) (x .words)
+      ≡ moved s (find (periodOf (x .entry)) (s .periods)) (changed (s .n) (s .grouping) (x .entry) (periodAt (periodOf (x .entry)) (s .periods))) (x .words)
   unfolding accepted
   accepted-names o = rw (o .not-open)
 
@@ -84,7 +84,7 @@ module _ (s : State) (x : Input) where
   accepted-answer = go (isOpen (x .entry))
     where
       go : (t : Bool) → cond t (opened s (periodOf (x .entry)) (x .words))
-          (moved s (find (periodOf (x .entry)) (s .periods)) (changed (s .n) (x .entry) (periodAt (periodOf (x .entry)) (s .periods))) (x .words)) .answer ≡ 0
+          (moved s (find (periodOf (x .entry)) (s .periods)) (changed (s .n) (s .grouping) (x .entry) (periodAt (periodOf (x .entry)) (s .periods))) (x .words)) .answer ≡ 0
       go true = refl
       go false = refl
 

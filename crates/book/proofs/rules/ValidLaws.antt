@@ -1,11 +1,11 @@
 -- A book just made is valid, every entry leaves a valid book, a refused one leaves it as it was.
 use Prim.Native.Nat.{ℕ, zero, suc, _+_, _-_, _*_, _≤_, _<_}
 use mathlib.Core.Path.{_≡_, refl, sym, ap, subst, _∙_}
-use mathlib.Core.Bool.{Bool, true, false}
+use mathlib.Core.Bool.{Bool, true, false, cond, true≢false}
 use mathlib.Core.List.{List, [], _∷_, _++_}
 use mathlib.Core.Logic.{_⊎_, inl, inr}
 use native.Mathlib.Omega.{arith}
-use borrow.Author.Tests.{eqb-true, eqb-false, ltb-false}
+use borrow.Author.Tests.{eqb-true, eqb-false}
 use lib.Dec.{eqb}
 use lib.ListN.{length, take, drop, replicate, length-append}
 use lib.Seq.{take-append-seam}
@@ -13,28 +13,33 @@ use Rattle.exact.specs.Rows.{places, at, sum}
 use Rattle.exact.proofs.Cases.{cases, cases-eq}
 use Rattle.exact.proofs.RowLaws.{sum-zero}
 use Rattle.settlement.specs.Month.{tiers, overTiers, tierAt}
+use Rattle.settlement.specs.Groups.{groupCount, groupingAllowed}
 use Rattle.settlement.specs.Settling.{held}
+use Rattle.settlement.proofs.Laws.{grouping-allowed}
+use Rattle.settlement.specs.declared.groups.Grouping.{Grouping}
 use Rattle.book.specs.Checks.{refusal}
 use Rattle.book.specs.rules.Kinds.{periodOf, isOpen, isAmount, isNotice, isReceipt, isSettle, receiptCents}
-use Rattle.book.specs.rules.Periods.{isSettled, zeros, holds, sideTotal, fresh, leaves, Change, changed, withLateReceipt}
-use Rattle.book.specs.rules.State.{State, view, pack, mostPeriods, Making, makingChecks, made, find, periodAt, replaced, removed, added}
+use Rattle.book.specs.rules.Periods.{isOpened, isSettled, zeros, holds, sideTotal, fresh, leaves, Change, changed, withLateReceipt}
+use Rattle.book.specs.rules.State.{State, view, pack, mostPeriods, find, periodAt, replaced, removed, added}
+use Rattle.book.specs.rules.Makings.{makingChecks, groupingOf, noGrouping, made}
 use Rattle.book.specs.rules.Refusals.{Input, checks}
 use Rattle.book.specs.rules.Step.{Outcome, stored, accepted, step, reply}
 use Rattle.book.specs.rules.Valid.{All, InBook, SoundState, Valid, StaysValid, RefusalChangesNothing, RoundsOfSettlements}
 use Rattle.book.specs.declared.entries.Entry.{Entry}
+use Rattle.book.specs.declared.makings.Making.{Making}
 use Rattle.book.specs.declared.Period.{Period}
-use Rattle.book.proofs.rules.CheckLaws.{all-pass}
 use Rattle.book.proofs.rules.CellLaws.{zeros-length, zeros-at, zeros-over}
 use Rattle.book.proofs.rules.ChangeLaws.{Changes, no-pays}
-use Rattle.book.proofs.rules.EntryChanges.{entry-changes}
+use Rattle.book.proofs.rules.EntryChanges.{entry-changes, entry-row}
 use Rattle.book.proofs.rules.ListLaws.{all-join, all-left, all-right, find-split}
+use Rattle.book.proofs.rules.MakingLaws.{accepted-few, accepted-grouped}
 use Rattle.book.proofs.rules.StepLaws.{Opens, Names, enters, by-kind, step-accepted, step-refused, accepted-opens, accepted-names, step-answer}
 use Rattle.book.specs.inner.Ways.{Entered}
 
 -- a period just opened
-pub fresh-in-book : (n k : ℕ) → n ≤ places → InBook n (fresh k)
+pub fresh-in-book : (n : ℕ) (grouping : Grouping) (k : ℕ) → n ≤ places → InBook n grouping (fresh k)
 unfolding fresh leaves sideTotal
-fresh-in-book n k few = record {
+fresh-in-book n grouping k few = record {
   sound = record {
     totals-size = refl;
     by-size = zeros-length places;
@@ -46,6 +51,7 @@ fresh-in-book n k few = record {
     at-stage = record { nothing-received = λ i _. zeros-at places i; nothing-paid = λ i _. zeros-at places i };
   };
   stays = refl;
+  row = λ e. absurd (true≢false (ap isOpened e));
 }
   where
     none-to : sum (overTiers (tierAt (zeros (tiers * places)))) n ≡ 0
@@ -74,34 +80,36 @@ module _ (s : State) (x : Input) (f : SoundState s) (i : Entered s x) (o : Names
   abbrev pub younger : List Period
   younger = drop (suc (find (periodOf (x .entry)) (s .periods))) (s .periods)
 
-  split : All (InBook (s .n)) (older ++ named ∷ younger)
-  split = subst (All (InBook (s .n))) (find-split (periodOf (x .entry)) (s .periods) (o .found)) (f .each)
+  split : All (InBook (s .n) (s .grouping)) (older ++ named ∷ younger)
+  split = subst (All (InBook (s .n) (s .grouping))) (find-split (periodOf (x .entry)) (s .periods) (o .found)) (f .each)
 
-  pub named-in-book : InBook (s .n) named
-  named-in-book = all-right (InBook (s .n)) older (named ∷ younger) split .0
+  pub named-in-book : InBook (s .n) (s .grouping) named
+  named-in-book = all-right (InBook (s .n) (s .grouping)) older (named ∷ younger) split .0
 
-  pub named-changes : Changes (s .n) (receiptCents (x .entry)) named (changed (s .n) (x .entry) named)
-  named-changes = entry-changes (s .n) named (named-in-book .sound) (x .entry) _ (o .not-open) (i .fields) (o .passed)
+  pub named-changes : Changes (s .n) (receiptCents (x .entry)) named (changed (s .n) (s .grouping) (x .entry) named)
+  named-changes = entry-changes (s .n) named named-in-book (x .entry) _ (o .not-open) (i .fields) (o .passed)
 
   sizes : length (s .periods) ≡ length older + suc (length younger)
   sizes = ap length (find-split (periodOf (x .entry)) (s .periods) (o .found)) ∙ length-append older (named ∷ younger)
 
-  pub moved-fit : SoundState (stored s (find (periodOf (x .entry)) (s .periods)) (changed (s .n) (x .entry) (periodAt (periodOf (x .entry)) (s .periods)) .period))
+  pub moved-fit : SoundState (stored s (find (periodOf (x .entry)) (s .periods)) (changed (s .n) (s .grouping) (x .entry) (periodAt (periodOf (x .entry)) (s .periods)) .period))
   unfolding stored replaced removed
   moved-fit =
-      let p′ = changed (s .n) (x .entry) named .period in
-      let left = all-left (InBook (s .n)) older (named ∷ younger) split in
-      let right = all-right (InBook (s .n)) older (named ∷ younger) split .1 in
+      let p′ = changed (s .n) (s .grouping) (x .entry) named .period in
+      let left = all-left (InBook (s .n) (s .grouping)) older (named ∷ younger) split in
+      let right = all-right (InBook (s .n) (s .grouping)) older (named ∷ younger) split .1 in
       cases SoundState (leaves (s .n) p′)
       (λ _. record {
         many = f .many;
+        grouped = f .grouped;
         few = omega (arith, f .few, sizes, length-append older younger);
-        each = all-join (InBook (s .n)) older younger left right;
+        each = all-join (InBook (s .n) (s .grouping)) older younger left right;
       })
       (λ q. record {
         many = f .many;
+        grouped = f .grouped;
         few = omega (arith, f .few, sizes, length-append older (p′ ∷ younger));
-        each = all-join (InBook (s .n)) older (p′ ∷ younger) left (record { sound = named-changes .sound; stays = q }, right);
+        each = all-join (InBook (s .n) (s .grouping)) older (p′ ∷ younger) left (record { sound = named-changes .sound; stays = q; row = entry-row (s .n) named named-in-book (x .entry) _ (o .not-open) (o .passed) }, right);
       })
 
 module _ (s : State) (x : Input) (f : SoundState s) where
@@ -111,8 +119,9 @@ module _ (s : State) (x : Input) (f : SoundState s) where
       let p = fresh (periodOf (x .entry)) in
       record {
         many = f .many;
+        grouped = f .grouped;
         few = omega (arith, length-append (s .periods) (p ∷ []), o .room);
-        each = all-join (InBook (s .n)) (s .periods) (p ∷ []) (f .each) (fresh-in-book (s .n) (periodOf (x .entry)) (f .many), tt);
+        each = all-join (InBook (s .n) (s .grouping)) (s .periods) (p ∷ []) (f .each) (fresh-in-book (s .n) (s .grouping) (periodOf (x .entry)) (f .many), tt);
       }
 
   pub step-fit : SoundState (step s x .state)
@@ -134,6 +143,7 @@ pub view-pack : (s : State) → view (pack s) ≡ s
 unfolding pack
 view-pack s = λ z. record {
   n = s .n;
+  grouping = s .grouping;
   highest = s .highest;
   periods = take-append-seam (s .periods) (replicate (mostPeriods - length (s .periods)) (fresh 0)) z;
 }
@@ -145,11 +155,16 @@ pub made-fit : (m : Making) → SoundState (made m .state)
 unfolding made
 made-fit m = record {
   many = cases-eq (λ z. z ≤ places) (refusal (makingChecks m)) 0
-      (λ e. ltb-false places (m .n) (all-pass (makingChecks m) refl e .1 .0))
+      (accepted-few m)
       (λ _. omega arith);
   few = omega arith;
+  grouped = go (eqb (refusal (makingChecks m)) 0) refl;
   each = tt;
 }
+  where
+    go : (t : Bool) → eqb (refusal (makingChecks m)) 0 ≡ t → groupingAllowed (cond t (m .n) 0) (cond t (groupingOf m) noGrouping) ≡ true
+    go true q = accepted-grouped m (eqb-true (refusal (makingChecks m)) 0 q)
+    go false q = grouping-allowed 0 noGrouping (λ i h. absurd (omega arith)) (λ k _. omega (arith, zeros-at groupCount k))
 
 pub stays-valid : StaysValid
 unfolding reply
@@ -164,9 +179,9 @@ refusal-changes-nothing b x v ne =
     let e = step-refused (view b) x (λ q. ne (step-answer (view b) x ∙ q)) in
     (ap (λ (o : Outcome). pack (o .state)) e ∙ sym (v .packed), ap (λ (o : Outcome). o .words) e)
 
-changed-rounds : (n : ℕ) (e : Entry) (p : Period) → isSettle e ≡ false → changed n e p .rounds ≡ 0
+changed-rounds : (n : ℕ) (grouping : Grouping) (e : Entry) (p : Period) → isSettle e ≡ false → changed n grouping e p .rounds ≡ 0
 unfolding changed withLateReceipt
-changed-rounds n e p q =
+changed-rounds n grouping e p q =
     let P : Change → Type 0 = λ c. c .rounds ≡ 0 in
     cases P (isAmount e) (λ _. refl)
     (λ _. cases P (isNotice e) (λ _. refl)
@@ -175,7 +190,7 @@ changed-rounds n e p q =
 
 accepted-rounds : (s : State) (x : Input) → isSettle (x .entry) ≡ false → accepted s x .rounds ≡ 0
 unfolding accepted
-accepted-rounds s x q = cases (λ (o : Outcome). o .rounds ≡ 0) (isOpen (x .entry)) (λ _. refl) (λ _. changed-rounds (s .n) (x .entry) _ q)
+accepted-rounds s x q = cases (λ (o : Outcome). o .rounds ≡ 0) (isOpen (x .entry)) (λ _. refl) (λ _. changed-rounds (s .n) (s .grouping) (x .entry) _ q)
 
 pub rounds-of-settlements : RoundsOfSettlements
 unfolding reply step

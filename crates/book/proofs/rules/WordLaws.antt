@@ -42,7 +42,7 @@ module _ (s : State) (e : Entry) (v w : List ℕ) (a : AgreeFrom (s .n) v w) whe
       j = find (periodOf e) (s .periods)
 
       c : Change
-      c = changed (s .n) e (periodAt (periodOf e) (s .periods))
+      c = changed (s .n) (s .grouping) e (periodAt (periodOf e) (s .periods))
 
       go : (t : Bool) → cond t (opened s (periodOf e) v) (moved s j c v) ≡ cond t (opened s (periodOf e) w) (moved s j c w)
       go true = ap (λ (l : List ℕ). record { answer = 0; rounds = 0; state = opened s (periodOf e) v .state; words = l }) (filled-over (at (zeros places)) (s .n) v w (a .rest))
@@ -56,9 +56,9 @@ module _ (s : State) (e : Entry) (v w : List ℕ) (a : AgreeFrom (s .n) v w) whe
       left : (f : ℕ → ℕ) → AgreeFrom (s .n) (filled f (s .n) v) w
       left f = record { size = filled-length f (s .n) v h ∙ a .size; rest = filled-drop f (s .n) v ∙ a .rest }
 
-      go : (t : Bool) → AgreeFrom (s .n) (cond t (opened s (periodOf e) v) (moved s (find (periodOf e) (s .periods)) (changed (s .n) e (periodAt (periodOf e) (s .periods))) v) .words) w
+      go : (t : Bool) → AgreeFrom (s .n) (cond t (opened s (periodOf e) v) (moved s (find (periodOf e) (s .periods)) (changed (s .n) (s .grouping) e (periodAt (periodOf e) (s .periods))) v) .words) w
       go true = left (at (zeros places))
-      go false = left (at (changed (s .n) e (periodAt (periodOf e) (s .periods)) .pays))
+      go false = left (at (changed (s .n) (s .grouping) e (periodAt (periodOf e) (s .periods)) .pays))
 
 -- what the words lent make of a reply: nothing, but that a refused entry leaves them as they were
 pub record Alike (b : Book) (e : Entry) (v w : List ℕ) : Type 0 where

@@ -2,6 +2,7 @@
 use mathlib.Core.Path.{_≡_, refl, sym, ap, subst, _∙_}
 use mathlib.Core.Logic.{inl, inr}
 use mathlib.Core.List.{List, [], _∷_, _++_}
+use Rattle.book.specs.history.Log.{retention}
 use Rattle.book.specs.rules.Refusals.{Input}
 use Rattle.book.specs.history.Demand3.{History, begun, next, after, Clauses}
 use Rattle.book.specs.runs.RunDemand3.{Block, entriesIn, Work, afterRun, afterWork, afterAll, RunDemand3}
@@ -37,4 +38,4 @@ all-after h (inr x ∷ work) =
     (l ++ later .0, later .1 ∙ ap (λ (g : History). after g (later .0)) (run-after h x) ∙ sym (after-both h l (later .0)))
 
 pub run-demand3 : RunDemand3
-run-demand3 m work = let l = all-after (begun m) work in subst (Clauses (m .n)) (sym (l .1)) (demand3 m (l .0))
+run-demand3 m work = let l = all-after (begun m) work in subst (Clauses (m .n) (retention (m .n) (m .grouping))) (sym (l .1)) (demand3 m (l .0))

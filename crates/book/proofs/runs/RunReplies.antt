@@ -11,7 +11,8 @@ use Rattle.exact.specs.Rows.{at, sum}
 use Rattle.exact.proofs.Cases.{cases, cases-eq}
 use Rattle.book.specs.Checks.{refusal}
 use Rattle.book.specs.layouts.Reading.{reading}
-use Rattle.book.specs.rules.State.{view, pack, Making, makingChecks, made}
+use Rattle.book.specs.rules.State.{view, pack}
+use Rattle.book.specs.rules.Makings.{makingChecks, made}
 use Rattle.book.specs.rules.Refusals.{Input}
 use Rattle.book.specs.rules.Step.{Reply, reply, paidBy}
 use Rattle.book.specs.runs.Running.{Run, lineOf, stopped, lined, run, inputsOf}
@@ -19,15 +20,16 @@ use Rattle.book.specs.history.Log.{Accepted, Log, moneyPaid}
 use Rattle.book.specs.history.Demand3.{History, begun, next, after}
 use Rattle.book.specs.runs.RunDemand3.{Block, ran, entriesIn, afterRun, Work, afterWork, afterAll}
 use Rattle.book.specs.runs.BlockRuns.{replies, bookAfter, wordsAfter, linesOf, paidWords, total, RunOf, paidAt, paidOver}
+use Rattle.book.specs.declared.makings.Making.{Making}
 use Rattle.book.specs.declared.Book.{Book}
 use Rattle.book.proofs.rules.StepLaws.{enters, step-answer}
-use Rattle.book.proofs.history.Histories.{step-n}
+use Rattle.book.proofs.history.Histories.{step-groups}
 use Rattle.book.proofs.runs.RunLaws.{read-or-none}
 
 -- an entry leaves the number of participants
 pub reply-n : (b : Book) (x : Input) → reply b x .book .n ≡ b .n
 unfolding reply pack
-reply-n b x = step-n (view b) x
+reply-n b x = step-groups (view b) x .0
 
 -- the payout words of an entry that has paid come to what it paid
 paid-words : (n : ℕ) (r : Reply) → 0 < paidBy n r → sum (at (r .words)) n ≡ paidBy n r

@@ -12,8 +12,8 @@ use lib.Seq.{sets}
 use Rattle.exact.specs.Rows.{places, at, sum}
 use Rattle.exact.proofs.Cases.{cases}
 use Rattle.book.specs.Checks.{refusal}
-use Rattle.book.specs.rules.Kinds.{periodOf, isOpen}
-use Rattle.book.specs.rules.Periods.{zeros, fresh, changed}
+use Rattle.book.specs.rules.Kinds.{periodOf, isOpen, addition}
+use Rattle.book.specs.rules.Periods.{zeros, fresh, withAddition}
 use Rattle.book.specs.layouts.Reading.{ReadOutcome, reading}
 use Rattle.book.specs.rules.State.{view, pack, mostPeriods, noPeriod, added}
 use Rattle.book.specs.rules.Refusals.{Input, barring, periodChecks, checks}
@@ -83,7 +83,7 @@ module _ {b : Book} {e : Entry} {j : ℕ} (words : List ℕ) (v : Valid b) (m : 
 
 -- the turn of an effect is the reply's
 module _ {b : Book} {e : Entry} {words : List ℕ} {j : ℕ} (f : Found b e words j) (x : Effect)
-    (q : x ≡ effect (b .n) e (barring e (view b .periods)) (getD (b .periods) j noPeriod) (b .held) words) where
+    (q : x ≡ effect (b .n) (b .grouping) e (barring e (view b .periods)) (getD (b .periods) j noPeriod) (b .held) words) where
   pub effect-turn : (lines : List ℕ) (wrote : ℕ) (b′ : Book) (lines′ : List ℕ) → b′ ≡ reply b (record { entry = e; words = words }) .book
       → lines′ ≡ sets lines wrote (x .answer ∷ x .paid ∷ x .held ∷ []) → Turn b e words lines wrote b′ (x .paid) (x .words) lines′
   effect-turn lines wrote b′ lines′ t l =
@@ -137,7 +137,7 @@ module _ (bytes : List ℕ) (n held : ℕ) where
       (λ none. rw none (omega arith))
       (λ y. rw (y .1) (cases (λ (r : Postings). length (r .lines) ≤ suc (suc (suc room))) (posts (p .number) (y .0))
       (λ _. cases (λ (r : Postings). suc (suc (suc (length (r .lines)))) ≤ suc (suc (suc room))) (eqb (refusal (periodChecks n false (y .0) p)) 0)
-      (λ _. omega (arith, within room (changed n (y .0) p .period) (reading bytes place .place) true))
+      (λ _. omega (arith, within room (withAddition p (addition (y .0))) (reading bytes place .place) true))
       (λ _. omega (arith, within room p (reading bytes place .place) accepted)))
       (λ _. omega arith)))
       (read-or-none bytes place)

@@ -1,5 +1,5 @@
--- 01's limits, its examples of them (01, Reckoned examples) among them, each at the limit and one outside it.
--- The numbers are 01's own and not those of the definitions, so that a limit which code and definitions share wrongly is found.
+-- 01's limits, its examples of them (01, Reckoned examples) among them, and those of groups and reserves (02, a), each at
+-- the limit and one outside it. The numbers are the papers' own: a limit that code and definitions share wrongly is found.
 use Prim.Native.Nat.{ℕ, _-_}
 use mathlib.Core.Path.{_≡_}
 use mathlib.Core.List.{List, [], _∷_, _++_}
@@ -7,9 +7,11 @@ use lib.ListN.{length, take, replicate}
 use Rattle.exact.specs.Energy.{energyCents}
 use Rattle.book.specs.layouts.Reading.{reading}
 use Rattle.book.specs.layouts.Writing.{writing, written}
-use Rattle.book.specs.rules.State.{State, made}
+use Rattle.book.specs.rules.State.{State}
+use Rattle.book.specs.rules.Makings.{made, separate}
 use Rattle.book.specs.rules.Step.{step}
 use Rattle.book.specs.examples.Months.{stateAfter, book, lent, noticeA, settledA, hundred, openings}
+use Rattle.book.specs.declared.makings.Making.{Making}
 use Rattle.book.specs.declared.entries.Entry.{Entry}
 use Rattle.book.specs.declared.entries.Entry.the-variants.{Open, Energy, Amount, Notice, Receipt, Settle}
 
@@ -24,6 +26,10 @@ of64 first l = answersOf (stateAfter (book 64) (replicate 64 0) first) (replicat
 
 abbrev pub of3 : List Entry → List Entry → List ℕ
 of3 first l = answersOf (stateAfter (book 3) lent first) lent l
+
+-- a making of n participants with their group numbers, and the reserves of the first groups; all others are 0
+abbrev pub making : ℕ → List ℕ → List ℕ → Making
+making n groups reserves = record { n = n; grouping = record { groups = groups; reserves = reserves } }
 
 abbrev pub opened : List Entry
 opened = Open 1 ∷ []
@@ -106,8 +112,18 @@ pub record ByteLimits : Type 0 where
 -- sizes, sums and stages of the book (01, The month's sums to Late money, and Refused), by the refusal's number
 pub record BookLimits : Type 0 where
   -- 4: n is 1 to 64
-  pub least-n : (made (record { n = 1 }) .answer ≡ 0) × (made (record { n = 0 }) .answer ≡ 4)
-  pub most-n : (made (record { n = 64 }) .answer ≡ 0) × (made (record { n = 65 }) .answer ≡ 4)
+  pub least-n : (made (separate 1) .answer ≡ 0) × (made (separate 0) .answer ≡ 4)
+  pub most-n : (made (separate 64) .answer ≡ 0) × (made (separate 65) .answer ≡ 4)
+  -- 3: group numbers are 0 to 63; those of participants that the book does not have are not looked at
+  pub most-group : (made (making 2 (0 ∷ 63 ∷ []) []) .answer ≡ 0) × (made (making 2 (0 ∷ 64 ∷ []) []) .answer ≡ 3)
+  pub groups-past-n : made (making 2 (0 ∷ 63 ∷ 64 ∷ []) []) ≡ made (making 2 (0 ∷ 63 ∷ []) [])
+  -- 3: each of the 64 reserves is at most 10,000,000,000,000
+  pub first-reserve : (made (making 2 [] (10_000_000_000_000 ∷ [])) .answer ≡ 0) × (made (making 2 [] (10_000_000_000_001 ∷ [])) .answer ≡ 3)
+  pub last-reserve : (made (making 2 [] (replicate 63 0 ++ 10_000_000_000_000 ∷ [])) .answer ≡ 0) × (made (making 2 [] (replicate 63 0 ++ 10_000_000_000_001 ∷ [])) .answer ≡ 3)
+  -- 4 before 3; the book of a refusal is the same one
+  pub four-before-three : (made (making 0 [] (10_000_000_000_001 ∷ [])) .answer ≡ 4) × (made (making 65 (64 ∷ []) []) .answer ≡ 4)
+  pub refused-book : made (making 2 (0 ∷ 64 ∷ []) (1 ∷ [])) .state ≡ made (making 0 [] []) .state
+  pub answers-four : answersOf (made (making 2 (0 ∷ 64 ∷ []) []) .state) lent (Open 1 ∷ Receipt 1 64 0 ∷ []) ≡ 4 ∷ 4 ∷ []
   -- 5: at least n payout words
   pub words-1 : (answersOf (book 1) (9 ∷ []) opened ≡ 0 ∷ []) × (answersOf (book 1) [] opened ≡ 5 ∷ [])
   pub words-64 : (answersOf (book 64) (replicate 64 9) opened ≡ 0 ∷ []) × (answersOf (book 64) (replicate 63 9) opened ≡ 5 ∷ [])

@@ -1,13 +1,16 @@
--- 01's listing of month A, month B and the other examples without a star (01, Reckoned examples), from `step`; those at a
--- limit stand in `Limits`.
+-- 01's listing of month A, month B and the other examples without a star (01, Reckoned examples), and a month of related
+-- payers (02, a), from `step`; those at a limit stand in `Limits`.
 use Prim.Native.Nat.{ℕ, _+_}
 use mathlib.Core.Path.{_≡_}
 use mathlib.Core.Bool.{cond}
 use mathlib.Core.List.{List, [], _∷_, _++_}
 use lib.Dec.{eqb}
+use lib.ListN.{replicate}
 use Rattle.exact.specs.Rows.{at, sum, table}
-use Rattle.book.specs.rules.State.{State, made, heldIn}
+use Rattle.book.specs.rules.State.{State, heldIn}
+use Rattle.book.specs.rules.Makings.{made, separate}
 use Rattle.book.specs.rules.Step.{Outcome, step}
+use Rattle.book.specs.declared.makings.Making.{Making}
 use Rattle.book.specs.declared.entries.Entry.{Entry}
 use Rattle.book.specs.declared.entries.Entry.the-variants.{Open, Energy, Amount, Notice, Receipt, Settle}
 
@@ -39,13 +42,13 @@ stateAfter s words [] = s
 stateAfter s words (e ∷ l) = stateAfter (step s (record { entry = e; words = words }) .state) words l
 
 abbrev pub book : ℕ → State
-book n = made (record { n = n }) .state
+book n = made (separate n) .state
 
 abbrev pub answers : List Line → List ℕ
 answers [] = []
 answers (x ∷ l) = x .answer ∷ answers l
 
--- four words for a book of three
+-- four words, for a book of three or four
 abbrev pub lent : List ℕ
 lent = 9 ∷ 9 ∷ 9 ∷ 9 ∷ []
 
@@ -85,6 +88,20 @@ listingB =
     ∷ paying 300 0 1 (0 ∷ 300 ∷ 0 ∷ 9 ∷ [])
     ∷ []
 
+-- 0 and 2 are related, in group 63, which has this reserve
+abbrev pub related : ℕ → Making
+related reserve = record { n = 4; grouping = record { groups = 63 ∷ 1 ∷ 63 ∷ 3 ∷ replicate 60 0; reserves = replicate 63 0 ++ reserve ∷ [] } }
+
+-- owing by 0: 600, by 2: 100, by 3: 300; owing to 1: tier 1 100, tier 5 700, to 2: tier 5 200. Payable are 600, 0, 43 and 300,
+-- with a reserve of 100 they are 600, 0, 72 and 300, and with groups of one 600, 0, 34 and 300
+abbrev pub noticeC : List Entry
+noticeC =
+    Open 1 ∷ Amount 1 0 0 0 600 ∷ Amount 1 2 0 0 100 ∷ Amount 1 3 0 0 300 ∷ Amount 1 1 1 1 100 ∷ Amount 1 1 1 5 700 ∷ Amount 1 2 1 5 200 ∷ Notice 1 ∷ []
+
+-- the lines of entries after others, in the book of related payers with a reserve
+abbrev pub linesC : ℕ → List Entry → List Entry → List Line
+linesC reserve first l = linesFrom (stateAfter (made (related reserve) .state) lent first) lent l
+
 -- owing by 0: 100, owing to 1: 100, in each of periods 1 to 3, and 0 has arrears in period 2
 abbrev pub hundred : ℕ → List Entry
 hundred k = Open k ∷ Amount k 0 0 0 100 ∷ Amount k 1 1 5 100 ∷ Notice k ∷ []
@@ -108,6 +125,14 @@ pub record Examples : Type 0 where
   pub month-a : linesFrom (book 3) lent monthA ≡ listingA
   pub gone-a : stateAfter (book 3) lent monthA .periods ≡ []
   pub month-b : linesFrom (book 3) lent monthB ≡ listingB
+  -- what is payable by 2 stands and a cent more is 13, without and with a reserve
+  pub payable-c : answers (linesC 0 noticeC (Receipt 1 2 44 ∷ Receipt 1 2 43 ∷ [])) ≡ 13 ∷ 0 ∷ []
+  pub payable-reserve : answers (linesC 100 noticeC (Receipt 1 2 73 ∷ Receipt 1 2 72 ∷ [])) ≡ 13 ∷ 0 ∷ []
+  -- only 0 does not pay: 2 is paid 9 of its claim of 143, and with groups of one 0 of its claim of 134
+  pub month-c : linesC 0 (noticeC ++ (Receipt 1 2 43 ∷ Receipt 1 3 300 ∷ [])) (Settle 1 ∷ []) ≡ paying 342 1 0 (0 ∷ 333 ∷ 9 ∷ 0 ∷ []) ∷ []
+  pub month-c-alone : linesFrom (stateAfter (book 4) lent (noticeC ++ (Receipt 1 2 34 ∷ Receipt 1 3 300 ∷ []))) lent (Settle 1 ∷ []) ≡ paying 333 1 0 (0 ∷ 333 ∷ 0 ∷ 0 ∷ []) ∷ []
+  -- both related payers do not pay: what 2 leaves unpaid is set off, and a round takes the deficit from 1
+  pub month-c-both : linesC 0 (noticeC ++ (Receipt 1 3 300 ∷ [])) (Settle 1 ∷ []) ≡ paying 299 1 1 (0 ∷ 299 ∷ 0 ∷ 0 ∷ []) ∷ []
   pub empty-month : answersAfter 3 [] (Open 1 ∷ Notice 1 ∷ Settle 1 ∷ []) ≡ 0 ∷ 0 ∷ 0 ∷ []
   pub empty-gone : stateAfter (book 3) lent (Open 1 ∷ Notice 1 ∷ Settle 1 ∷ []) .periods ≡ []
   pub answers-65 : answersAfter 65 [] (Open 1 ∷ Receipt 1 64 0 ∷ []) ≡ 4 ∷ 4 ∷ []

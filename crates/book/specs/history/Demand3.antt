@@ -9,11 +9,13 @@ use Rattle.exact.specs.Rows.{sum}
 use Rattle.settlement.specs.Month.{tiers}
 use Rattle.settlement.specs.Late.{fill, tiersOf, shortage}
 use Rattle.book.specs.rules.Kinds.{names, isReceipt}
-use Rattle.book.specs.rules.State.{pack, centsHeld, numbersIn, Making, made}
+use Rattle.book.specs.rules.State.{pack, centsHeld, numbersIn}
+use Rattle.book.specs.rules.Makings.{made}
 use Rattle.book.specs.rules.Refusals.{Input}
 use Rattle.book.specs.rules.Step.{reply}
 use Rattle.book.specs.rules.Valid.{All, Valid}
-use Rattle.book.specs.history.Log.{Log, Account, account, moneyReceived, moneyPaid, payable, fullClaim, setOff, claim, arrearsAtSettlement, arrears, received, unpaidClaims, heldMoney}
+use Rattle.book.specs.history.Log.{Log, Account, account, moneyReceived, moneyPaid, retention, payable, fullClaim, setOff, claim, arrearsAtSettlement, arrears, received, unpaidClaims, heldMoney}
+use Rattle.book.specs.declared.makings.Making.{Making}
 use Rattle.book.specs.declared.Book.{Book}
 
 -- the program's book, and the log of the entries that were answered 0
@@ -58,19 +60,20 @@ WasOpened k log = 0 < account k log .openings
 abbrev pub WasSettled : ℕ → Log → Type 0
 WasSettled k log = 0 < account k log .settlements
 
-module _ (n : ℕ) where
+-- n participants; `retained a i` is A_i of the period with account a, and how it was reckoned is not looked at
+module _ (n : ℕ) (retained : Account → ℕ → ℕ) where
   abbrev pub WithoutArrears : ℕ → Log → Type 0
-  WithoutArrears k log = (i : ℕ) → i < n → arrears n (account k log) i ≡ 0
+  WithoutArrears k log = (i : ℕ) → i < n → arrears n retained (account k log) i ≡ 0
 
   -- every claim of the period is paid in full
   abbrev pub PaidInFull : ℕ → Log → Type 0
-  PaidInFull k log = (i : ℕ) → i < n → account k log .paid i ≡ claim n (account k log) i
+  PaidInFull k log = (i : ℕ) → i < n → account k log .paid i ≡ claim n retained (account k log) i
 
   -- between two accounts of a period: where i has more in tier t, nobody has a shortage in a tier before t
   abbrev pub TiersInOrder : Account → Account → Type 0
   TiersInOrder a b =
       (t i : ℕ) → t < tiers → i < n → fill (tiersOf (b .to) i) (a .paid i) t < fill (tiersOf (b .to) i) (b .paid i) t
-      → (s j : ℕ) → s < t → j < n → shortage (b .to) (claim n b) (b .paid) s j ≡ 0
+      → (s j : ℕ) → s < t → j < n → shortage (b .to) (claim n retained b) (b .paid) s j ≡ 0
 
   -- so it is with every late receipt, one that follows its period's settle entry
   abbrev pub LateInOrder : Log → Type 0
@@ -81,10 +84,10 @@ module _ (n : ℕ) where
 
   -- no difference above is cut off at 0, for participant i of a settled period
   pub record NothingCutOff (a : Account) (i : ℕ) : Type 0 where
-    pub received-le : a .before i ≤ payable n a i
-    pub set-off-le : setOff n a i ≤ fullClaim n a i
-    pub late-le : a .late i ≤ arrearsAtSettlement n a i
-    pub paid-le : a .paid i ≤ claim n a i
+    pub received-le : a .before i ≤ payable n retained a i
+    pub set-off-le : setOff n retained a i ≤ fullClaim n retained a i
+    pub late-le : a .late i ≤ arrearsAtSettlement n retained a i
+    pub paid-le : a .paid i ≤ claim n retained a i
 
   -- what holds after a list
   pub record Clauses (h : History) : Type 0 where
@@ -95,7 +98,7 @@ module _ (n : ℕ) where
     pub listed : centsHeld (h .book) ≡ moneyHeld n (h .log) (numbersIn (h .book))
     -- a settled period in the book: unpaid claims are arrears and held money, and held money is within its bound
     pub claims : (k : ℕ) → Has k (numbersIn (h .book)) → WasSettled k (h .log)
-        → unpaidClaims n (account k (h .log)) ≡ sum (arrears n (account k (h .log))) n + heldMoney n (account k (h .log))
+        → unpaidClaims n retained (account k (h .log)) ≡ sum (arrears n retained (account k (h .log))) n + heldMoney n (account k (h .log))
     pub held-bound : (k : ℕ) → Has k (numbersIn (h .book)) → WasSettled k (h .log) → heldMoney n (account k (h .log)) ≤ 2 * (n - 1)
     -- an opened period has left the book exactly when it is settled and has no arrears; its claims are then paid in full
     pub left : (k : ℕ) → WasOpened k (h .log) → (Has k (numbersIn (h .book)) → ⊥) → WasSettled k (h .log) × WithoutArrears k (h .log)
@@ -111,6 +114,6 @@ module _ (n : ℕ) where
     pub nothing-cut-off : (k : ℕ) → WasSettled k (h .log) → (i : ℕ) → i < n → NothingCutOff (account k (h .log)) i
     pub paid-within : (k : ℕ) → sum (account k (h .log) .paid) n ≤ sum (received n (account k (h .log))) n
 
--- a book made with anything, and any list of entries with any payout words
+-- a book made with anything, and any list of entries with any payout words; n, groups and reserves are those it was made with
 abbrev pub Demand3 : Type 0
-Demand3 = (m : Making) (inputs : List Input) → Clauses (m .n) (after (begun m) inputs)
+Demand3 = (m : Making) (inputs : List Input) → Clauses (m .n) (retention (m .n) (m .grouping)) (after (begun m) inputs)

@@ -6,7 +6,9 @@ use lib.Dec.{eqb}
 use Rattle.exact.specs.Rows.{at, sum}
 use Rattle.settlement.specs.Month.{Month}
 use Rattle.settlement.specs.Notice as notice
+use Rattle.settlement.specs.Groups.{groupRetention}
 use Rattle.settlement.specs.Claims as step1
+use Rattle.settlement.specs.declared.groups.Grouping.{Grouping}
 use Rattle.book.specs.rules.Kinds.{names, isOpen, isAmount, isReceipt, isSettle, addition, payerOf, receiptCents}
 use Rattle.book.specs.declared.entries.Entry.{Entry}
 
@@ -86,38 +88,41 @@ module _ (n : ℕ) (a : Account) where
   abbrev pub monthIn : Month
   monthIn = record { n = n; by = a .by; to = a .to }
 
-  -- A, P and F
-  abbrev pub retention : ℕ → ℕ
-  retention = notice.retention monthIn
+  -- all receipts of i
+  abbrev pub received : ℕ → ℕ
+  received i = a .before i + a .late i
 
+  -- held money: its receipts less all that was paid in it
+  abbrev pub heldMoney : ℕ
+  heldMoney = sum received n - sum (a .paid) n
+
+-- A: the retention of the period, by the groups and reserves that the book was made with (02, a)
+abbrev pub retention : ℕ → Grouping → Account → ℕ → ℕ
+retention n grouping a = groupRetention (monthIn n a) grouping
+
+-- what follows from retention, however it was reckoned: `retained a i` is A_i of the period with account a
+module _ (n : ℕ) (retained : Account → ℕ → ℕ) (a : Account) where
+  -- P and F
   abbrev pub payable : ℕ → ℕ
-  payable = notice.payable monthIn retention
+  payable = notice.payable (monthIn n a) (retained a)
 
   abbrev pub fullClaim : ℕ → ℕ
-  fullClaim = notice.fullClaim monthIn retention
+  fullClaim = notice.fullClaim (monthIn n a) (retained a)
 
   -- set-off, claims C and the arrears of step 1, with the receipts before the settle entry as received
   abbrev pub setOff : ℕ → ℕ
-  setOff = step1.setOff monthIn retention (a .before)
+  setOff = step1.setOff (monthIn n a) (retained a) (a .before)
 
   abbrev pub claim : ℕ → ℕ
-  claim = step1.claim monthIn retention (a .before)
+  claim = step1.claim (monthIn n a) (retained a) (a .before)
 
   abbrev pub arrearsAtSettlement : ℕ → ℕ
-  arrearsAtSettlement = step1.arrears monthIn retention (a .before)
+  arrearsAtSettlement = step1.arrears (monthIn n a) (retained a) (a .before)
 
   -- arrears now: those of step 1, each less that payer's later receipts
   abbrev pub arrears : ℕ → ℕ
   arrears i = arrearsAtSettlement i - a .late i
 
-  -- all receipts of i
-  abbrev pub received : ℕ → ℕ
-  received i = a .before i + a .late i
-
   -- unpaid claims: C_i less what i was paid, over all i
   abbrev pub unpaidClaims : ℕ
   unpaidClaims = sum (λ i. claim i - a .paid i) n
-
-  -- held money: its receipts less all that was paid in it
-  abbrev pub heldMoney : ℕ
-  heldMoney = sum received n - sum (a .paid) n

@@ -7,6 +7,8 @@ use lib.Dec.{eqb}
 use lib.ListN.{length}
 use Rattle.exact.specs.Rows.{places, at, sum}
 use Rattle.settlement.specs.Month.{tiers}
+use Rattle.settlement.specs.Groups.{groupingAllowed}
+use Rattle.settlement.specs.declared.groups.Grouping.{Grouping}
 use Rattle.book.specs.Checks.{refusal}
 use Rattle.book.specs.rules.Periods as period
 use Rattle.book.specs.layouts.Allowed.{allowed}
@@ -54,26 +56,27 @@ pub record Effect : Type 0 where
   pub words : List ℕ
 
 -- an accepted entry pays what its period pays, out of what is held and its receipt; a refused one changes nothing
-unfoldable pub effect : ℕ → Entry → Bool → Period → ℕ → List ℕ → Effect
-effect n e barred p held words =
+unfoldable pub effect : ℕ → Grouping → Entry → Bool → Period → ℕ → List ℕ → Effect
+effect n grouping e barred p held words =
     cond (eqb (refusal (periodChecks n barred e p)) 0)
     (record {
       answer = 0;
-      rounds = period.changed n e p .rounds;
-      period = period.changed n e p .period;
-      held = held + receiptCents e - sum (at (period.changed n e p .pays)) n;
-      paid = sum (at (period.changed n e p .pays)) n;
-      words = payoutWords n (period.changed n e p .pays) words;
+      rounds = period.changed n grouping e p .rounds;
+      period = period.changed n grouping e p .period;
+      held = held + receiptCents e - sum (at (period.changed n grouping e p .pays)) n;
+      paid = sum (at (period.changed n grouping e p .pays)) n;
+      words = payoutWords n (period.changed n grouping e p .pays) words;
     })
     (record { answer = refusal (periodChecks n barred e p); rounds = 0; period = p; held = held; paid = 0; words = words })
 
--- what is asked of the period, of the cents held and of the payout words
-pub record Affects (n : ℕ) (e : Entry) (p : Period) (held : ℕ) (words : List ℕ) : Type 0 where
+-- what is asked of the groups, of the period, of the cents held and of the payout words
+pub record Affects (n : ℕ) (grouping : Grouping) (e : Entry) (p : Period) (held : ℕ) (words : List ℕ) : Type 0 where
   pub many : n ≤ places
   pub enough : n ≤ length words
   pub not-open : isOpen e ≡ false
   pub fields : allowed e ≡ true
-  pub in-book : InBook n p
+  pub grouped : groupingAllowed n grouping ≡ true
+  pub in-book : InBook n grouping p
   pub within : period.holds n p ≤ held
   pub fits : held + receiptCents e < 2 ^ 64
 

@@ -4,8 +4,8 @@ use mathlib.Core.Bool.{Bool, true, false, cond}
 use mathlib.Core.List.{List, [], _∷_, _++_}
 use lib.Dec.{eqb, ltb}
 use lib.ListN.{getD, length, take, drop, replicate}
-use Rattle.exact.specs.Rows.{places, at}
-use Rattle.book.specs.Checks.{Check, on, refusal}
+use Rattle.exact.specs.Rows.{at}
+use Rattle.settlement.specs.declared.groups.Grouping.{Grouping}
 use Rattle.book.specs.rules.Periods.{isSettled, fresh, holds}
 use Rattle.book.specs.declared.Stage.the-variants.{Opened}
 use Rattle.book.specs.declared.Period.{Period}
@@ -15,9 +15,11 @@ use Rattle.book.specs.declared.Book.{Book}
 abbrev pub mostPeriods : ℕ
 mostPeriods = 12
 
--- n participants, the highest period ever opened, and the periods in the book, oldest first
+-- n participants, their groups with the groups' reserves, the highest period ever opened, and the periods in the book, oldest
+-- first
 pub record State : Type 0 where
   pub n : ℕ
+  pub grouping : Grouping
   pub highest : ℕ
   pub periods : List Period
 
@@ -28,12 +30,13 @@ heldIn n (p ∷ ps) = holds n p + heldIn n ps
 
 -- the state that a record stands for ..
 abbrev pub view : Book → State
-view b = record { n = b .n; highest = b .highest; periods = take (b .count) (b .periods) }
+view b = record { n = b .n; grouping = b .grouping; highest = b .highest; periods = take (b .count) (b .periods) }
 
 -- .. and the record of a state: nothing in it is free
 unfoldable pub pack : State → Book
 pack s = record {
   n = s .n;
+  grouping = s .grouping;
   highest = s .highest;
   count = length (s .periods);
   held = heldIn (s .n) (s .periods);
@@ -51,25 +54,6 @@ numbers (p ∷ ps) = p .number ∷ numbers ps
 
 abbrev pub numbersIn : Book → List ℕ
 numbersIn b = numbers (view b .periods)
-
--- what a book is made with
-pub record Making : Type 0 where
-  pub n : ℕ
-
--- 4 for n of 0 or above 64 (01, Refused)
-abbrev pub makingChecks : Making → List Check
-makingChecks m = on (eqb (m .n) 0) 4 ∷ on (ltb places (m .n)) 4 ∷ []
-
-pub record Made : Type 0 where
-  pub answer : ℕ
-  pub state : State
-
--- a book just made; one that was refused has no participants
-unfoldable pub made : Making → Made
-made m = record {
-  answer = refusal (makingChecks m);
-  state = record { n = cond (eqb (refusal (makingChecks m)) 0) (m .n) 0; highest = 0; periods = [] };
-}
 
 -- the place of period k in a list of periods, or how many there are where it is not among them
 unfoldable pub find : ℕ → List Period → ℕ
@@ -104,7 +88,7 @@ earlierArrears i k [] = false
 earlierArrears i k (p ∷ ps) = cond (arrearsBefore i k p) true (earlierArrears i k ps)
 
 abbrev pub withPeriods : State → List Period → State
-withPeriods s ps = record { n = s .n; highest = s .highest; periods = ps }
+withPeriods s ps = record { n = s .n; grouping = s .grouping; highest = s .highest; periods = ps }
 
 -- the period at place j replaced by another
 unfoldable pub replaced : State → ℕ → Period → State
@@ -116,4 +100,4 @@ removed s j = withPeriods s (take j (s .periods) ++ drop (suc j) (s .periods))
 
 -- one more period, the last, whose number is then the highest
 unfoldable pub added : State → Period → State
-added s p = record { n = s .n; highest = p .number; periods = s .periods ++ (p ∷ []) }
+added s p = record { n = s .n; grouping = s .grouping; highest = p .number; periods = s .periods ++ (p ∷ []) }

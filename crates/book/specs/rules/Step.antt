@@ -43,7 +43,7 @@ unfoldable pub accepted : State → Input → Outcome
 accepted s x =
     cond (isOpen (x .entry))
     (opened s (periodOf (x .entry)) (x .words))
-    (moved s (find (periodOf (x .entry)) (s .periods)) (changed (s .n) (x .entry) (periodAt (periodOf (x .entry)) (s .periods))) (x .words))
+    (moved s (find (periodOf (x .entry)) (s .periods)) (changed (s .n) (s .grouping) (x .entry) (periodAt (periodOf (x .entry)) (s .periods))) (x .words))
 
 -- a refusal changes nothing
 abbrev pub refused : State → Input → ℕ → Outcome

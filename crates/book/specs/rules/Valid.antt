@@ -1,20 +1,24 @@
 -- What is true of every book that the program hands back, and what its functions require of a book.
 use Prim.Native.Nat.{ℕ, _+_, _-_, _*_, _≤_, _<_}
 use mathlib.Core.Path.{_≡_}
-use mathlib.Core.Bool.{false}
+use mathlib.Core.Bool.{true, false}
 use mathlib.Core.List.{List, [], _∷_}
 use lib.ListN.{length}
 use Rattle.exact.specs.Rows.{places, at, sum}
 use Rattle.settlement.specs.Month.{Bounded, tiers, owingTo}
-use Rattle.settlement.specs.Notice.{noticed}
+use Rattle.settlement.specs.Notice.{Due}
+use Rattle.settlement.specs.Groups.{groupingAllowed, noticed}
+use Rattle.settlement.specs.declared.groups.Grouping.{Grouping}
 use Rattle.book.specs.rules.Kinds.{isSettle}
 use Rattle.book.specs.rules.Periods.{monthOf, sideTotal, leaves}
-use Rattle.book.specs.rules.State.{State, view, pack, mostPeriods, Making, made}
+use Rattle.book.specs.rules.State.{State, view, pack, mostPeriods}
+use Rattle.book.specs.rules.Makings.{made}
 use Rattle.book.specs.rules.Refusals.{Input}
 use Rattle.book.specs.rules.Step.{reply}
 use Rattle.book.specs.declared.Stage.{Stage}
 use Rattle.book.specs.declared.Stage.the-variants.{Opened, Noticed, Settled}
 use Rattle.book.specs.declared.Period.{Period}
+use Rattle.book.specs.declared.makings.Making.{Making}
 use Rattle.book.specs.declared.Book.{Book}
 
 -- every element of a list has a property
@@ -28,10 +32,11 @@ module _ (n : ℕ) (p : Period) where
     pub nothing-received : (i : ℕ) → i < n → at (p .received) i ≡ 0
     pub nothing-paid : (i : ℕ) → i < n → at (p .paid) i ≡ 0
 
-  -- from notice to settlement the sides are equal, what is payable is 01's, and received is at most payable
+  -- from notice to settlement the sides are equal, what is payable comes from a retention of at most the tier 5 part, and
+  -- received is at most payable
   pub record BeforeSettlement : Type 0 where
     pub equal : sum (monthOf n p .by) n ≡ sum (owingTo (monthOf n p)) n
-    pub row : p .payable ≡ noticed (monthOf n p) .payable
+    pub due : Due (monthOf n p) (p .payable)
     pub within : (i : ℕ) → i < n → at (p .received) i ≤ at (p .payable) i
     pub nothing-paid : (i : ℕ) → i < n → at (p .paid) i ≡ 0
 
@@ -59,15 +64,18 @@ module _ (n : ℕ) (p : Period) where
     pub bounded : Bounded (monthOf n p)
     pub at-stage : AtStage (p .stage)
 
--- a period in the book is sound and does not leave
-pub record InBook (n : ℕ) (p : Period) : Type 0 where
+-- a period in the book is sound and does not leave; from notice to settlement what is payable is what a notice reckons by the
+-- book's groups and reserves
+pub record InBook (n : ℕ) (grouping : Grouping) (p : Period) : Type 0 where
   pub sound : Sound n p
   pub stays : leaves n p ≡ false
+  pub row : p .stage ≡ Noticed → p .payable ≡ noticed (monthOf n p) grouping .payable
 
 pub record SoundState (s : State) : Type 0 where
   pub many : s .n ≤ places
   pub few : length (s .periods) ≤ mostPeriods
-  pub each : All (InBook (s .n)) (s .periods)
+  pub grouped : groupingAllowed (s .n) (s .grouping) ≡ true
+  pub each : All (InBook (s .n) (s .grouping)) (s .periods)
 
 -- the record is that of its state, and that is fit
 pub record Valid (b : Book) : Type 0 where

@@ -2,10 +2,11 @@
 use Prim.Native.Nat.{ℕ}
 use mathlib.Core.Logic.{_⊎_, inl, inr}
 use mathlib.Core.List.{List, [], _∷_}
-use Rattle.book.specs.rules.State.{Making}
 use Rattle.book.specs.rules.Refusals.{Input}
 use Rattle.book.specs.runs.Running.{Run, run, inputsOf}
+use Rattle.book.specs.history.Log.{retention}
 use Rattle.book.specs.history.Demand3.{History, begun, next, after, Clauses}
+use Rattle.book.specs.declared.makings.Making.{Making}
 use Rattle.book.specs.declared.Book.{Book}
 
 -- a block of the feed as it is lent: its bytes, the place of the next entry, the payout words, and the room for lines
@@ -40,4 +41,4 @@ afterAll h [] = h
 afterAll h (x ∷ work) = afterAll (afterWork h x) work
 
 abbrev pub RunDemand3 : Type 0
-RunDemand3 = (m : Making) (work : List Work) → Clauses (m .n) (afterAll (begun m) work)
+RunDemand3 = (m : Making) (work : List Work) → Clauses (m .n) (retention (m .n) (m .grouping)) (afterAll (begun m) work)

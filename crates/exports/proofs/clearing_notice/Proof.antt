@@ -5,7 +5,7 @@ use native.Mathlib.Omega.{arith}
 use lib.ListN.{length}
 use borrow.Author.Tests.{not-true, not-false}
 use Rattle.exports.specs.Slices.{left}
-use Rattle.exports.specs.Orders.{inOrder, Sound}
+use Rattle.exports.specs.Orders.{inOrder, Sound, GroupsSound}
 use Rattle.exports.proofs.OrderLaws.{Fitting, fitting}
 use borrow.Author.Needs.{needs}
 use Rattle.exports.proofs.clearing_notice.Statement.{statement}
@@ -18,11 +18,11 @@ in-order-requires : tie.Need-in-order-requires
 in-order-requires c κs = search needs
 
 -- the arguments are in order where the test is passed
-passed : (c : tie.Else1) → let a = c .before .before .before .before .before .before .before .args in inOrder (a .n) (a .by .now) (a .to .now) (min (length (a .retention .now)) (length (a .payable .now))) ≡ true
+passed : (c : tie.Else1) → let a = c .before .before .before .before .before .before .before .before .before .args in inOrder (a .n) (a .by .now) (a .to .now) (a .groups .now) (a .reserves .now) (min (length (a .retention .now)) (length (a .payable .now))) ≡ true
 passed c = not-false _ (rw (c .before .in-order .ensures, c .before .before .shorter .ensures) at (c .if1 .left))
 
-known : (c : tie.Else1) → let a = c .before .before .before .before .before .before .before .args in Fitting (Sound (a .n) (a .by .now) (a .to .now)) (min (length (a .retention .now)) (length (a .payable .now)))
-known c = fitting _ _ _ _ (passed c)
+known : (c : tie.Else1) → let a = c .before .before .before .before .before .before .before .before .before .args in Fitting (Sound (a .n) (a .by .now) (a .to .now) × GroupsSound (a .n) (a .groups .now) (a .reserves .now)) (min (length (a .retention .now)) (length (a .payable .now)))
+known c = fitting _ _ _ _ _ _ (passed c)
 
 returns : tie.Need-returns
 unfolding left

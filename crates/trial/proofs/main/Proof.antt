@@ -1,9 +1,12 @@
 use mathlib.Core.Path.{sym, subst}
-use borrow.Author.Needs.{needs}
 use Rattle.book.specs.rules.Valid.{Valid}
 use Rattle.book.proofs.Laws.{stays-valid}
+use borrow.Author.Needs.{needs}
 use Rattle.trial.proofs.main.Statement.{statement}
 use Rattle.trial.proofs.main.Tie as tie
+
+separate-requires : tie.Need-separate-requires
+separate-requires c κs = search needs
 
 new-requires : tie.Need-new-requires
 new-requires c κs = search needs
@@ -15,4 +18,4 @@ returns : tie.Need-returns
 returns c = search needs
 
 pub main-spec : {M : Type 1} → statement M
-main-spec = tie.close (tie.spec new-requires call-all-requires returns)
+main-spec = tie.close (tie.spec separate-requires new-requires call-all-requires returns)

@@ -57,27 +57,27 @@ refused-at c =
 found : (c : tie.After-known-told2 Inv-loop μ-loop) → let l = c .before .before .before .before .before .loop in let x = c .before .j2 .given .0 in Found (l .b) (x .1 .0) (l .words) (x .0)
 found c = let l = c .before .before .before .before .before .loop in named-found (l .words) (l .inv .0 .valid) (named-read (named-at c) .1)
 
-affected : (c : tie.After-apply-to-period Inv-loop μ-loop) → let l = c .before .before .before .before .before .before .before .before .before .loop in let x = c .before .before .before .before .before .j2 .given .0 in
-    effectOf (c .apply-to-period .result) (c .apply-to-period .last .1 .1 .1 .1 .1 .0)
-    ≡ effect (l .b .n) (x .1 .0) (barring (x .1 .0) (view (l .b) .periods)) (getD (l .b .periods) (x .0) noPeriod) (l .b .held) (l .words)
+affected : (c : tie.After-apply-to-period Inv-loop μ-loop) → let l = c .before .before .before .before .before .before .before .before .before .before .loop in let x = c .before .before .before .before .before .before .j2 .given .0 in
+    effectOf (c .apply-to-period .result) (c .apply-to-period .last .1 .1 .1 .1 .1 .1 .0)
+    ≡ effect (l .b .n) (l .b .grouping) (x .1 .0) (barring (x .1 .0) (view (l .b) .periods)) (getD (l .b .periods) (x .0) noPeriod) (l .b .held) (l .words)
 affected c = rw (c .before .before .is-barred .ensures) at (c .apply-to-period .ensures)
 
 -- the book that it leaves is the reply's, whether the period stays or leaves
-left-book : (c : tie.Joined1 Inv-loop μ-loop) → let l = c .before .before .before .before .before .before .before .before .before .before .before .before .before .before .before .before .before .before .before .loop in let x = c .before .before .before .before .before .before .before .before .before .before .before .before .before .before .before .j2 .given .0 in
+left-book : (c : tie.Joined1 Inv-loop μ-loop) → let l = c .before .before .before .before .before .before .before .before .before .before .before .before .before .before .before .before .before .before .before .before .loop in let x = c .before .before .before .before .before .before .before .before .before .before .before .before .before .before .before .before .j2 .given .0 in
     c .if1 .b ≡ reply (l .b) (record { entry = x .1 .0; words = l .words }) .book
 left-book c =
-    let f = found (c .before .before .before .before .before .before .before .before .before .before .before .before .before .before) in
+    let f = found (c .before .before .before .before .before .before .before .before .before .before .before .before .before .before .before) in
     let q = affected (c .before .before .before .before .before .before .before .before .before .before) in
     ⊎-elim
     (λ w. w .2 ∙ w .1 .ensures ∙ ap (λ (r : Reply). r .book) (reply-leaves f _ q (sym (c .before .is-leaving .ensures) ∙ w .0 .taken)))
     (λ w. w .1 ∙ ap (λ (r : Reply). r .book) (reply-stays f _ q (sym (c .before .is-leaving .ensures) ∙ w .0 .left)))
     (c .if1 .came)
 
-named-turn : (c : tie.Joined1 Inv-loop μ-loop) → let l = c .before .before .before .before .before .before .before .before .before .before .before .before .before .before .before .before .before .before .before .loop in let x = c .before .before .before .before .before .before .before .before .before .before .before .before .before .before .before .j2 .given .0 in
-    Turn (l .b) (x .1 .0) (l .words) (l .lines) (l .wrote) (c .if1 .b) (c .before .before .before .before .before .before .before .before .before .before .apply-to-period .result .paid) (c .before .before .before .before .before .before .before .before .before .before .apply-to-period .last .1 .1 .1 .1 .1 .0) (c .before .before .before .before .put-line .last .0)
+named-turn : (c : tie.Joined1 Inv-loop μ-loop) → let l = c .before .before .before .before .before .before .before .before .before .before .before .before .before .before .before .before .before .before .before .before .loop in let x = c .before .before .before .before .before .before .before .before .before .before .before .before .before .before .before .before .j2 .given .0 in
+    Turn (l .b) (x .1 .0) (l .words) (l .lines) (l .wrote) (c .if1 .b) (c .before .before .before .before .before .before .before .before .before .before .apply-to-period .result .paid) (c .before .before .before .before .before .before .before .before .before .before .apply-to-period .last .1 .1 .1 .1 .1 .1 .0) (c .before .before .before .before .put-line .last .0)
 named-turn c =
-    let l = c .before .before .before .before .before .before .before .before .before .before .before .before .before .before .before .before .before .before .before .loop in
-    effect-turn (found (c .before .before .before .before .before .before .before .before .before .before .before .before .before .before)) _ (affected (c .before .before .before .before .before .before .before .before .before .before)) (l .lines) (l .wrote) _ _ (left-book c)
+    let l = c .before .before .before .before .before .before .before .before .before .before .before .before .before .before .before .before .before .before .before .before .loop in
+    effect-turn (found (c .before .before .before .before .before .before .before .before .before .before .before .before .before .before .before)) _ (affected (c .before .before .before .before .before .before .before .before .before .before)) (l .lines) (l .wrote) _ _ (left-book c)
     (c .before .before .before .before .put-line .ensures ∙ (λ z. sets (l .lines) (l .wrote) (c .before .before .before .before .before .number .ensures z ∷ c .before .before .before .before .before .before .before .before .before .before .apply-to-period .result .paid ∷ c .before .before .before .before .before .before .before .before .before .before .apply-to-period .result .held ∷ [])))
 
 loop-holds : tie.Need-loop-holds Inv-loop μ-loop
@@ -139,45 +139,45 @@ element-copy-out-p-2 : tie.Need-element-copy-out-p-2 Inv-loop μ-loop
 element-copy-out-p-2 c = omega (arith, count-few (c .before .before .before .before .before .loop .inv .0 .valid), found c .used)
 
 is-barred-requires : tie.Need-is-barred-requires Inv-loop μ-loop
-is-barred-requires c κs = (c .before .before .before .before .before .before .loop .inv .0 .valid, found (c .before) .entered .fields)
+is-barred-requires c κs = (c .before .before .before .before .before .before .before .loop .inv .0 .valid, found (c .before .before) .entered .fields)
 
 apply-to-period-requires : tie.Need-apply-to-period-requires Inv-loop μ-loop
-apply-to-period-requires c κs = found-affects (found (c .before .before .before))
+apply-to-period-requires c κs = found-affects (found (c .before .before .before .before))
 
 number-requires : tie.Need-number-requires Inv-loop μ-loop
 number-requires c κs = search needs
 
 put-line-requires : tie.Need-put-line-requires Inv-loop μ-loop
-put-line-requires c κs = omega (arith, c .before .before .before .before .before .before .before .before .before .before .before .before .before .before .loop .inv .0 .room, c .before .before .before .before .before .before .before .before .before .before .before .before .before .loop-test .taken)
+put-line-requires c κs = omega (arith, c .before .before .before .before .before .before .before .before .before .before .before .before .before .before .before .loop .inv .0 .room, c .before .before .before .before .before .before .before .before .before .before .before .before .before .before .loop-test .taken)
 
 add-wrote : tie.Need-add-wrote Inv-loop μ-loop
-add-wrote c = omega (arith, c .before .before .before .before .before .before .before .before .before .before .before .before .before .before .before .before .before .loop .inv .0 .size, c .before .before .before .before .before .before .before .before .before .before .before .before .before .before .before .before .before .before .before .before .before .good, c .before .before .before .before .before .before .before .before .before .before .before .before .before .before .before .before .loop-test .taken)
+add-wrote c = omega (arith, c .before .before .before .before .before .before .before .before .before .before .before .before .before .before .before .before .before .before .loop .inv .0 .size, c .before .before .before .before .before .before .before .before .before .before .before .before .before .before .before .before .before .before .before .before .before .before .good, c .before .before .before .before .before .before .before .before .before .before .before .before .before .before .before .before .before .loop-test .taken)
 
 is-leaving-requires : tie.Need-is-leaving-requires Inv-loop μ-loop
 is-leaving-requires c κs =
-    let l = c .before .before .before .before .before .before .before .before .before .before .before .before .before .before .before .before .before .loop in
-    let sound = effect-sound (found (c .before .before .before .before .before .before .before .before .before .before .before .before)) _ (affected (c .before .before .before .before .before .before .before .before)) in
+    let l = c .before .before .before .before .before .before .before .before .before .before .before .before .before .before .before .before .before .before .loop in
+    let sound = effect-sound (found (c .before .before .before .before .before .before .before .before .before .before .before .before .before)) _ (affected (c .before .before .before .before .before .before .before .before)) in
     (l .inv .0 .valid .fit .many, λ z. omega (arith, arrears-bound (l .b .n) _ sound z))
 
 without-period-requires : tie.Need-without-period-requires Inv-loop μ-loop
 without-period-requires c κs =
-    let l = c .before .before .before .before .before .before .before .before .before .before .before .before .before .before .before .before .before .before .before .loop in
-    let f = found (c .before .before .before .before .before .before .before .before .before .before .before .before .before .before) in
+    let l = c .before .before .before .before .before .before .before .before .before .before .before .before .before .before .before .before .before .before .before .before .loop in
+    let f = found (c .before .before .before .before .before .before .before .before .before .before .before .before .before .before .before) in
     (l .inv .0 .valid, omega (arith, count-is (l .inv .0 .valid), f .used), leaves-held f _ (affected (c .before .before .before .before .before .before .before .before .before .before)) (sym (c .before .is-leaving .ensures) ∙ c .if1 .taken))
 
 mul-q-2 : tie.Need-mul-q-2 Inv-loop μ-loop
-mul-q-2 c = omega (arith, count-few (c .before .before .before .before .before .before .before .before .before .before .before .before .before .before .before .before .before .before .before .loop .inv .0 .valid), found (c .before .before .before .before .before .before .before .before .before .before .before .before .before .before) .used)
+mul-q-2 c = omega (arith, count-few (c .before .before .before .before .before .before .before .before .before .before .before .before .before .before .before .before .before .before .before .before .loop .inv .0 .valid), found (c .before .before .before .before .before .before .before .before .before .before .before .before .before .before .before) .used)
 
 element-set-from-q-2 : tie.Need-element-set-from-q-2 Inv-loop μ-loop
-element-set-from-q-2 c = omega (arith, count-few (c .before .before .before .before .before .before .before .before .before .before .before .before .before .before .before .before .before .before .before .loop .inv .0 .valid), found (c .before .before .before .before .before .before .before .before .before .before .before .before .before .before) .used)
+element-set-from-q-2 c = omega (arith, count-few (c .before .before .before .before .before .before .before .before .before .before .before .before .before .before .before .before .before .before .before .before .loop .inv .0 .valid), found (c .before .before .before .before .before .before .before .before .before .before .before .before .before .before .before) .used)
 
 loop-less-2 : tie.Need-loop-less-2 Inv-loop μ-loop
-loop-less-2 c = omega (arith, c .before .before .before .before .before .before .put-line .kept .0, c .before .before .before .before .before .before .before .before .before .before .before .before .before .before .before .before .before .before .before .before .before .loop .inv .0 .room, c .before .before .before .before .before .before .before .before .before .before .before .before .before .before .before .before .before .before .before .before .loop-test .taken)
+loop-less-2 c = omega (arith, c .before .before .before .before .before .before .put-line .kept .0, c .before .before .before .before .before .before .before .before .before .before .before .before .before .before .before .before .before .before .before .before .before .before .loop .inv .0 .room, c .before .before .before .before .before .before .before .before .before .before .before .before .before .before .before .before .before .before .before .before .before .loop-test .taken)
 
 loop-again-2 : tie.Need-loop-again-2 Inv-loop μ-loop
 loop-again-2 c =
-    let l = c .before .before .before .before .before .before .before .before .before .before .before .before .before .before .before .before .before .before .before .before .before .loop in
-    (turn-on _ _ _ _ _ (l .inv .0) _ _ (named-read (named-at (c .before .before .before .before .before .before .before .before .before .before .before .before .before .before .before .before)) .0) (c .before .before .before .before .before .before .before .before .before .before .before .before .before .before .before .before .before .before .before .before .loop-test .taken) _ _ _ _ (named-turn (c .before .before)) (c .if2 .left), c .before .before .before .before .before .before .before .before .before .before .before .before .apply-to-period .kept .1 .1 .1 .1 .1 .0 ∙ l .inv .1)
+    let l = c .before .before .before .before .before .before .before .before .before .before .before .before .before .before .before .before .before .before .before .before .before .before .loop in
+    (turn-on _ _ _ _ _ (l .inv .0) _ _ (named-read (named-at (c .before .before .before .before .before .before .before .before .before .before .before .before .before .before .before .before .before)) .0) (c .before .before .before .before .before .before .before .before .before .before .before .before .before .before .before .before .before .before .before .before .before .loop-test .taken) _ _ _ _ (named-turn (c .before .before)) (c .if2 .left), c .before .before .before .before .before .before .before .before .before .before .before .before .apply-to-period .kept .1 .1 .1 .1 .1 .1 .0 ∙ l .inv .1)
 
 enum-known-period : tie.Need-enum-known-period Inv-loop μ-loop
 enum-known-period c = search needs
@@ -245,13 +245,13 @@ returns : tie.Need-returns Inv-loop μ-loop
 returns c = full-ends _ _ _ _ _ (c .before .loop .inv .0) (omega (arith, c .loop-test .left))
 
 same-length-3 : tie.Need-same-length-3 Inv-loop μ-loop
-same-length-3 c = c .before .before .before .before .before .before .before .before .before .before .before .before .apply-to-period .kept .1 .1 .1 .1 .1 .0 ∙ c .before .before .before .before .before .before .before .before .before .before .before .before .before .before .before .before .before .before .before .before .before .loop .inv .1
+same-length-3 c = c .before .before .before .before .before .before .before .before .before .before .before .before .apply-to-period .kept .1 .1 .1 .1 .1 .1 .0 ∙ c .before .before .before .before .before .before .before .before .before .before .before .before .before .before .before .before .before .before .before .before .before .before .loop .inv .1
 
 same-length-4 : tie.Need-same-length-4 Inv-loop μ-loop
-same-length-4 c = c .before .before .before .before .before .before .put-line .kept .0 ∙ c .before .before .before .before .before .before .before .before .before .before .before .before .before .before .before .before .before .before .before .before .before .loop .inv .0 .size
+same-length-4 c = c .before .before .before .before .before .before .put-line .kept .0 ∙ c .before .before .before .before .before .before .before .before .before .before .before .before .before .before .before .before .before .before .before .before .before .before .loop .inv .0 .size
 
 returns-2 : tie.Need-returns-2 Inv-loop μ-loop
-returns-2 c = turn-ends _ _ _ _ _ (c .before .before .before .before .before .before .before .before .before .before .before .before .before .before .before .before .before .before .before .before .before .loop .inv .0) _ _ (named-read (named-at (c .before .before .before .before .before .before .before .before .before .before .before .before .before .before .before .before)) .0) (c .before .before .before .before .before .before .before .before .before .before .before .before .before .before .before .before .before .before .before .before .loop-test .taken) _ _ _ _ (named-turn (c .before .before)) (c .if2 .taken)
+returns-2 c = turn-ends _ _ _ _ _ (c .before .before .before .before .before .before .before .before .before .before .before .before .before .before .before .before .before .before .before .before .before .before .loop .inv .0) _ _ (named-read (named-at (c .before .before .before .before .before .before .before .before .before .before .before .before .before .before .before .before .before)) .0) (c .before .before .before .before .before .before .before .before .before .before .before .before .before .before .before .before .before .before .before .before .before .loop-test .taken) _ _ _ _ (named-turn (c .before .before)) (c .if2 .taken)
 
 same-length-5 : tie.Need-same-length-5 Inv-loop μ-loop
 same-length-5 c = c .before .before .before .before .loop .inv .1

@@ -20,10 +20,10 @@ passed : (c : tie.Else1) → let s = c .before .before .before .before .args in 
 passed c = sym (c .before .before .period-answer .ensures) ∙ eqb-true _ _ (sym (c .before .is-accepted .ensures) ∙ not-false _ (c .if1 .left))
 
 -- what is paid is what was held and came in, less what is held now
-paid-within : (c : tie.Else1) → let s = c .before .before .before .before .args in sum (at (changed (s .n) (s .e) (s .p) .pays)) (s .n) ≤ s .held + receiptCents (s .e)
+paid-within : (c : tie.Else1) → let s = c .before .before .before .before .args in sum (at (changed (s .n) (s .grouping) (s .e) (s .p) .pays)) (s .n) ≤ s .held + receiptCents (s .e)
 paid-within c =
     let s = c .before .before .before .before in
-    let d = entry-changes (s .args .n) (s .args .p) (s .pre .in-book .sound) (s .args .e) (s .args .barred) (s .pre .not-open) (s .pre .fields) (passed c) in
+    let d = entry-changes (s .args .n) (s .args .p) (s .pre .in-book) (s .args .e) (s .args .barred) (s .pre .not-open) (s .pre .fields) (passed c) in
     omega (arith, change-cents (s .args .n) (s .args .p) (s .pre .in-book .sound) (receiptCents (s .args .e)) _ d, s .pre .within)
 
 period-answer-requires : tie.Need-period-answer-requires
@@ -37,13 +37,13 @@ returns c =
     let s = c .before .before .before .before in
     let ne = eqb-false _ _ (sym (c .before .is-accepted .ensures) ∙ not-true _ (c .if1 .taken)) in
     let a = c .before .before .period-answer .ensures in
-    sym (effect-refused (s .args .n) (s .args .e) (s .args .barred) (s .args .p) (s .args .held) (s .args .words .now) (λ z. ne (a ∙ z))
+    sym (effect-refused (s .args .n) (s .args .grouping) (s .args .e) (s .args .barred) (s .args .p) (s .args .held) (s .args .words .now) (λ z. ne (a ∙ z))
     ∙ ap (λ (k : ℕ). record { answer = k; rounds = 0; period = s .args .p; held = s .args .held; paid = 0; words = s .args .words .now }) (sym a))
 
 change-period-requires : tie.Need-change-period-requires
 change-period-requires c κs =
     let s = c .before .before .before .before in
-    (s .pre .in-book .sound, s .pre .not-open, s .pre .fields, record { barred = _; passed = passed c })
+    (s .pre .in-book, s .pre .grouped, s .pre .not-open, s .pre .fields, record { barred = _; passed = passed c })
 
 put-cells-requires : tie.Need-put-cells-requires
 put-cells-requires c κs = let s = c .before .before .before .before .before .before .before in (s .pre .many, s .pre .enough)
@@ -60,8 +60,8 @@ total-requires c κs =
     let q = c .before .before .before .before .before .before .before .change-period .ensures in
     (s .pre .many, rw (ap (λ (x : period.Change). x .pays) q) (omega (arith, paid-within (c .before .before .before .before .before .before .before .before), s .pre .fits)))
 
-sub-t18 : tie.Need-sub-t18
-sub-t18 c =
+sub-t19 : tie.Need-sub-t19
+sub-t19 c =
     let s = c .before .before .before .before .before .before .before .before .before .before .before .before .before in
     let q = c .before .before .before .before .before .before .before .before .change-period .ensures in
     let t = c .total .ensures ∙ ap (λ (x : period.Change). sum (at (x .pays)) (s .args .n)) q in
@@ -85,7 +85,7 @@ returns-2 c =
       paid = t z;
       words = (c .before .before .before .before .before .put-cells .ensures ∙ ap (λ (x : period.Change). payoutWords (s .args .n) (x .pays) (s .args .words .now)) q) z;
     })
-    ∙ sym (effect-accepted (s .args .n) (s .args .e) (s .args .barred) (s .args .p) (s .args .held) (s .args .words .now) h)
+    ∙ sym (effect-accepted (s .args .n) (s .args .grouping) (s .args .e) (s .args .barred) (s .args .p) (s .args .held) (s .args .words .now) h)
 
 pub apply-to-period-spec : {M : Type 1} → statement M
 apply-to-period-spec =
@@ -99,6 +99,6 @@ apply-to-period-spec =
     receipt-cents-requires
     add-came
     total-requires
-    sub-t18
+    sub-t19
     same-length
     returns-2)

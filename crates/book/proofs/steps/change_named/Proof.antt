@@ -30,9 +30,9 @@ found c =
     }
 
 -- what became of it
-affected : (c : tie.After-apply-to-period) → let s = c .before .before .before .before .before .before .before .before .args in
-    effectOf (c .apply-to-period .result) (c .apply-to-period .last .1 .1 .1 .1 .1 .0)
-    ≡ effect (s .t1 .n) (s .e) (barring (s .e) (view (s .t1) .periods)) (getD (s .t1 .periods) (c .before .before .before .before .before .place .result) noPeriod) (s .t1 .held) (s .words .now)
+affected : (c : tie.After-apply-to-period) → let s = c .before .before .before .before .before .before .before .before .before .args in
+    effectOf (c .apply-to-period .result) (c .apply-to-period .last .1 .1 .1 .1 .1 .1 .0)
+    ≡ effect (s .t1 .n) (s .t1 .grouping) (s .e) (barring (s .e) (view (s .t1) .periods)) (getD (s .t1 .periods) (c .before .before .before .before .before .before .place .result) noPeriod) (s .t1 .held) (s .words .now)
 affected c = rw (c .before .before .is-barred .ensures) at (c .apply-to-period .ensures)
 
 period-of-requires : tie.Need-period-of-requires
@@ -58,21 +58,21 @@ element-copy-out-p : tie.Need-element-copy-out-p
 element-copy-out-p c = omega (arith, count-few (c .before .before .before .before .pre .0), c .if1 .left)
 
 is-barred-requires : tie.Need-is-barred-requires
-is-barred-requires c κs = let s = c .before .before .before .before .before in (s .pre .0, s .pre .1 .fields)
+is-barred-requires c κs = let s = c .before .before .before .before .before .before in (s .pre .0, s .pre .1 .fields)
 
 apply-to-period-requires : tie.Need-apply-to-period-requires
-apply-to-period-requires c κs = found-affects (found (c .before .before))
+apply-to-period-requires c κs = found-affects (found (c .before .before .before))
 
 is-leaving-requires : tie.Need-is-leaving-requires
 is-leaving-requires c κs =
-    let s = c .before .before .before .before .before .before .before .before .before .before .before in
-    let sound = effect-sound (found (c .before .before .before .before .before .before)) _ (affected (c .before .before .before)) in
+    let s = c .before .before .before .before .before .before .before .before .before .before .before .before in
+    let sound = effect-sound (found (c .before .before .before .before .before .before .before)) _ (affected (c .before .before .before)) in
     (s .pre .0 .fit .many, λ z. omega (arith, arrears-bound (s .args .t1 .n) _ sound z))
 
 without-period-requires : tie.Need-without-period-requires
 without-period-requires c κs =
-    let s = c .before .before .before .before .before .before .before .before .before .before .before .before .before in
-    let f = found (c .before .before .before .before .before .before .before .before) in
+    let s = c .before .before .before .before .before .before .before .before .before .before .before .before .before .before in
+    let f = found (c .before .before .before .before .before .before .before .before .before) in
     (s .pre .0, omega (arith, count-is (s .pre .0), f .used), leaves-held f _ (affected (c .before .before .before .before .before)) (sym (c .before .is-leaving .ensures) ∙ c .if2 .taken))
 
 same-length : tie.Need-same-length
@@ -81,20 +81,20 @@ same-length c = search needs
 returns-2 : tie.Need-returns-2
 returns-2 c =
     let r = c .before .before .before .before .before .before in
-    ap (λ (x : Book). record { answer = numberOf (r .apply-to-period .result .answer); rounds = r .apply-to-period .result .rounds; book = x; words = r .apply-to-period .last .1 .1 .1 .1 .1 .0 }) (c .without-period .ensures)
-    ∙ reply-leaves (found (c .before .before .before .before .before .before .before .before .before)) _ (affected r) (sym (c .before .before .is-leaving .ensures) ∙ c .before .if2 .taken)
+    ap (λ (x : Book). record { answer = numberOf (r .apply-to-period .result .answer); rounds = r .apply-to-period .result .rounds; book = x; words = r .apply-to-period .last .1 .1 .1 .1 .1 .1 .0 }) (c .without-period .ensures)
+    ∙ reply-leaves (found (c .before .before .before .before .before .before .before .before .before .before)) _ (affected r) (sym (c .before .before .is-leaving .ensures) ∙ c .before .if2 .taken)
 
 mul-q : tie.Need-mul-q
-mul-q c = omega (arith, count-few (c .before .before .before .before .before .before .before .before .before .before .before .before .before .pre .0), c .before .before .before .before .before .before .before .before .before .if1 .left)
+mul-q c = omega (arith, count-few (c .before .before .before .before .before .before .before .before .before .before .before .before .before .before .pre .0), c .before .before .before .before .before .before .before .before .before .before .if1 .left)
 
 element-set-from-q : tie.Need-element-set-from-q
-element-set-from-q c = omega (arith, count-few (c .before .before .before .before .before .before .before .before .before .before .before .before .before .pre .0), c .before .before .before .before .before .before .before .before .before .if1 .left)
+element-set-from-q c = omega (arith, count-few (c .before .before .before .before .before .before .before .before .before .before .before .before .before .before .pre .0), c .before .before .before .before .before .before .before .before .before .before .if1 .left)
 
 same-length-2 : tie.Need-same-length-2
 same-length-2 c = search needs
 
 returns-3 : tie.Need-returns-3
-returns-3 c = reply-stays (found (c .before .before .before .before .before .before .before .before)) _ (affected (c .before .before .before .before .before)) (sym (c .before .is-leaving .ensures) ∙ c .if2 .left)
+returns-3 c = reply-stays (found (c .before .before .before .before .before .before .before .before .before)) _ (affected (c .before .before .before .before .before)) (sym (c .before .is-leaving .ensures) ∙ c .if2 .left)
 
 pub change-named-spec : {M : Type 1} → statement M
 change-named-spec =

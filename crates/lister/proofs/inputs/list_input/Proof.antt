@@ -7,7 +7,6 @@ use Rattle.text.specs.declared.streams.Input.{Input}
 use Rattle.text.specs.declared.streams.Output.{Output}
 use Rattle.text.proofs.StreamLaws.{brought}
 use Rattle.lister.specs.Lines.{header}
-use Rattle.lister.specs.Listing.{bookFor}
 use Rattle.lister.specs.Sessions.{Session}
 use Rattle.lister.proofs.BeginLaws.{header-not-written, nothing-read}
 use borrow.Author.Needs.{needs}
@@ -64,29 +63,26 @@ returns-2 c =
     (rw (c .before .why-ended .ensures)
     (nothing-read _ _ (omega (arith, u, f .counted, z)) (sent (c .before .before .before .before .before .before .before .before .before .before)) _ (f .came) (omega (arith, z)) (sym (c .before .before .before .before .before .before .before .before .before .is-written .ensures) ∙ not-false _ (c .before .before .before .before .before .before .before .before .if1 .left))))
 
-element-copy-out-size : tie.Need-element-copy-out-size
-element-copy-out-size c = search needs
+element-copy-out-first-book : tie.Need-element-copy-out-first-book
+element-copy-out-first-book c = search needs
 
-size-requires : tie.Need-size-requires
-size-requires c κs = search needs
-
-new-requires : tie.Need-new-requires
-new-requires c κs = search needs
+first-book-requires : tie.Need-first-book-requires
+first-book-requires c κs = search needs
 
 list-blocks-requires : tie.Need-list-blocks-requires
 list-blocks-requires c κs =
-    let u : c .before .before .before .before .before .before .before .before .before .before .before .before .unread2 .result .total ≡ 0 = ap (λ (i : Input). i .total) (c .before .before .before .before .before .before .before .before .before .before .before .before .unread2 .ensures) in
-    let f = c .before .before .before .before .before .before .before .before .before .before .read-more .ensures in
-    let some : 0 < c .before .before .before .before .before .before .before .before .before .before .read-more .result .filled = omega (arith, c .before .before .before .before .before .before .before .before .if2 .left) in
+    let u : c .before .before .before .before .before .before .before .before .before .before .unread2 .result .total ≡ 0 = ap (λ (i : Input). i .total) (c .before .before .before .before .before .before .before .before .before .before .unread2 .ensures) in
+    let f = c .before .before .before .before .before .before .before .before .read-more .ensures in
+    let some : 0 < c .before .before .before .before .before .before .before .before .read-more .result .filled = omega (arith, c .before .before .before .before .before .before .if2 .left) in
     record {
       some = some;
       within = f .within;
       read-counted = omega (arith, u, f .counted);
       brought = brought _ _ (f .came) (omega (arith, some));
-      header-counted = sent (c .before .before .before .before .before .before .before .before .before .before .before .before .before .before .before);
-      header-written = sym (c .before .before .before .before .before .before .before .before .before .before .before .before .before .before .is-written .ensures) ∙ not-false _ (c .before .before .before .before .before .before .before .before .before .before .before .before .before .if1 .left);
-      book = c .before .before .before .before .before .new .ensures .1 ∙ ap bookFor (c .before .before .before .before .before .before .size .ensures);
-      as-lent = c .before .before .before .before .before .before .before .before .before .before .before .before .before .before .before .before .before .before .before .before .before .pre;
+      header-counted = sent (c .before .before .before .before .before .before .before .before .before .before .before .before .before);
+      header-written = sym (c .before .before .before .before .before .before .before .before .before .before .before .before .is-written .ensures) ∙ not-false _ (c .before .before .before .before .before .before .before .before .before .before .before .if1 .left);
+      book = c .before .before .before .before .first-book .ensures;
+      as-lent = c .before .before .before .before .before .before .before .before .before .before .before .before .before .before .before .before .before .before .before .pre;
     }
 
 returns-3 : tie.Need-returns-3
@@ -108,8 +104,7 @@ list-input-spec =
     why-ended-requires
     ended-by-requires-2
     returns-2
-    element-copy-out-size
-    size-requires
-    new-requires
+    element-copy-out-first-book
+    first-book-requires
     list-blocks-requires
     returns-3)

@@ -5,14 +5,15 @@ use native.Mathlib.Omega.{arith}
 use Rattle.exact.specs.Rows.{at, largest}
 use Rattle.exact.proofs.RowLaws.{largest-none, largest-more}
 use Rattle.settlement.specs.Notice.{gives}
+use Rattle.settlement.specs.Groups.{groupCount}
 use Rattle.settlement.proofs.retention.largest_gift.Statement.{statement}
 use Rattle.settlement.proofs.retention.largest_gift.Tie as tie
 
 abbrev Inv-loop : tie.InvT-loop
-Inv-loop part n shortfalls others most₀ p₀ most p = (p ≤ n) × (most ≡ largest (λ k. gives (at shortfalls k) (at others k) part) p)
+Inv-loop part shortfalls outside most₀ k₀ most k = (k ≤ groupCount) × (most ≡ largest (λ j. gives (at shortfalls j) (at outside j) part) k)
 
 abbrev μ-loop : tie.MeasureT-loop
-μ-loop part n shortfalls others most₀ p₀ most p = n - p
+μ-loop part shortfalls outside most₀ k₀ most k = groupCount - k
 
 loop-holds : tie.Need-loop-holds Inv-loop μ-loop
 loop-holds c = (search needs, sym (largest-none _))
@@ -30,13 +31,13 @@ array-read-gift-2 : tie.Need-array-read-gift-2 Inv-loop μ-loop
 array-read-gift-2 c = search needs
 
 gift-requires : tie.Need-gift-requires Inv-loop μ-loop
-gift-requires c κs = (c .before .before .pre .2 (c .before .loop .p) (omega arith), c .before .before .pre .1)
+gift-requires c κs = (c .before .before .pre .1 (c .before .loop .k) (omega arith), c .before .before .pre .0)
 
 larger-requires : tie.Need-larger-requires Inv-loop μ-loop
 larger-requires c κs = search needs
 
-add-p : tie.Need-add-p Inv-loop μ-loop
-add-p c = search needs
+add-k : tie.Need-add-k Inv-loop μ-loop
+add-k c = search needs
 
 loop-less : tie.Need-loop-less Inv-loop μ-loop
 loop-less c = search needs
@@ -60,7 +61,7 @@ largest-gift-spec =
     array-read-gift-2
     gift-requires
     larger-requires
-    add-p
+    add-k
     loop-less
     loop-again
     returns)

@@ -5,14 +5,15 @@ use native.Mathlib.Omega.{arith}
 use Rattle.exact.specs.Rows.{at, largest, cells}
 use Rattle.exact.proofs.RowLaws.{cells-none, cells-more}
 use Rattle.settlement.specs.Notice.{gives}
+use Rattle.settlement.specs.Groups.{groupCount}
 use Rattle.settlement.proofs.retention.largest_gifts.Statement.{statement}
 use Rattle.settlement.proofs.retention.largest_gifts.Tie as tie
 
 abbrev Inv-loop : tie.InvT-loop
-Inv-loop shortfalls others n parts out₀ i₀ out i = (i ≤ n) × (out ≡ cells (λ k. largest (λ p. gives (at shortfalls p) (at others p) (at parts k)) n) i)
+Inv-loop shortfalls outside n parts out₀ i₀ out i = (i ≤ n) × (out ≡ cells (λ j. largest (λ k. gives (at shortfalls k) (at outside k) (at parts j)) groupCount) i)
 
 abbrev μ-loop : tie.MeasureT-loop
-μ-loop shortfalls others n parts out₀ i₀ out i = n - i
+μ-loop shortfalls outside n parts out₀ i₀ out i = n - i
 
 loop-holds : tie.Need-loop-holds Inv-loop μ-loop
 loop-holds c = (search needs, cells-none _)
@@ -26,7 +27,7 @@ array-read-largest-gift c = search needs
 largest-gift-requires : tie.Need-largest-gift-requires Inv-loop μ-loop
 largest-gift-requires c κs =
     let s = c .before .before in
-    (s .pre .0, s .pre .2 (c .before .loop .i) (omega arith), s .pre .1)
+    (s .pre .2 (c .before .loop .i) (omega arith), s .pre .1)
 
 mul-out : tie.Need-mul-out Inv-loop μ-loop
 mul-out c = search needs

@@ -5,9 +5,6 @@ use borrow.Author.Needs.{needs}
 use Rattle.trial.proofs.calling.make.Statement.{statement}
 use Rattle.trial.proofs.calling.make.Tie as tie
 
-number-at-requires : tie.Need-number-at-requires
-number-at-requires c κs = search needs
-
 new-requires : tie.Need-new-requires
 new-requires c κs = search needs
 
@@ -30,7 +27,6 @@ pub make-spec : {M : Type 1} → statement M
 make-spec =
     tie.close
     (tie.spec
-    number-at-requires
     new-requires
     number-requires
     array-write-numbers

@@ -2,6 +2,7 @@
 
 use crate::library;
 use crate::slices::{self, Rest};
+use reckoning::kinds::Kinds;
 use reckoning::months::Month;
 use std::collections::BTreeMap;
 
@@ -15,6 +16,10 @@ pub struct Count {
     pub rounds: BTreeMap<u64, u64>,
     /// Months with so many participants.
     pub participants: BTreeMap<usize, u64>,
+    /// Months by groups and reserves.
+    pub kinds: Kinds,
+    /// Months whose payable row groups of one and no reserves would not give.
+    pub other_rows: u64,
     pub differences: Vec<String>,
 }
 
@@ -35,29 +40,39 @@ impl Count {
     pub fn month(&mut self, name: &str, month: &Month, rest: Rest) {
         let by = slices::row(&month.sums.by, rest);
         let to = slices::tiers(&month.sums, rest);
+        let groups = slices::groups(&month.making, rest);
+        let reserves = slices::reserves(&month.making, rest);
+        let given = [&by[..], &to, &groups, &reserves];
         let received = slices::row(&month.received, rest);
         let [mut a, mut b, mut c] = [(); 3].map(|()| slices::lent());
-        let taken = library::notice(&by, &to, month.n, [&mut a, &mut b]);
+        let taken = library::notice(given, month.n, [&mut a, &mut b]);
         self.number(&format!("{name}: notice taken"), 1, taken.into());
         self.row(&format!("{name}: retention"), &month.retention, &a);
         self.row(&format!("{name}: payable"), &month.payable, &b);
 
         let [mut a, mut b] = [(); 2].map(|()| slices::lent());
-        let taken = library::scaled(&by, &to, &received, month.n, [&mut a, &mut b, &mut c]);
+        let taken = library::scaled(given, &received, month.n, [&mut a, &mut b, &mut c]);
         self.number(&format!("{name}: scaled taken"), 1, taken.into());
         self.row(&format!("{name}: revised"), &month.revised, &a);
         self.row(&format!("{name}: scaled above 0"), &month.scaled_above, &b);
         self.row(&format!("{name}: scaled below 0"), &month.scaled_below, &c);
 
         let [mut a, mut b, mut c] = [(); 3].map(|()| slices::lent());
-        let rounds = library::settle(&by, &to, &received, month.n, [&mut a, &mut b, &mut c]);
+        let rounds = library::settle(given, &received, month.n, [&mut a, &mut b, &mut c]);
         self.number(&format!("{name}: rounds"), month.rounds, rounds);
         self.row(&format!("{name}: paid"), &month.paid, &a);
         self.row(&format!("{name}: claim"), &month.claim, &b);
         self.row(&format!("{name}: arrears"), &month.arrears, &c);
 
         self.late(name, month, &to, rest);
+        self.reach(month);
+    }
+
+    /// Counts what a month has.
+    fn reach(&mut self, month: &Month) {
         self.months += 1;
+        self.kinds.take(&month.making);
+        self.other_rows += u64::from(month.has_other_row());
         *self.rounds.entry(month.rounds).or_default() += 1;
         *self.participants.entry(month.n).or_default() += 1;
     }

@@ -9,6 +9,10 @@ extern "C" {
         by_length: usize,
         to: *const u64,
         to_length: usize,
+        groups: *const u64,
+        groups_length: usize,
+        reserves: *const u64,
+        reserves_length: usize,
         n: usize,
         retention: *mut u64,
         retention_length: usize,
@@ -21,6 +25,10 @@ extern "C" {
         by_length: usize,
         to: *const u64,
         to_length: usize,
+        groups: *const u64,
+        groups_length: usize,
+        reserves: *const u64,
+        reserves_length: usize,
         received: *const u64,
         received_length: usize,
         n: usize,
@@ -37,6 +45,10 @@ extern "C" {
         by_length: usize,
         to: *const u64,
         to_length: usize,
+        groups: *const u64,
+        groups_length: usize,
+        reserves: *const u64,
+        reserves_length: usize,
         received: *const u64,
         received_length: usize,
         n: usize,
@@ -68,8 +80,9 @@ pub fn proportion(amount: u64, part: u64, whole: u64) -> u64 {
     unsafe { clearing_proportion(amount, part, whole) }
 }
 
-/// Whether the arguments were in order. The slices written are retention and payable.
-pub fn notice(by: &[u64], to: &[u64], n: usize, [a, b]: [&mut [u64]; 2]) -> bool {
+/// Whether the arguments were in order. The slices given are those of `by` and `to`, the group
+/// numbers and the reserves; the slices written are retention and payable.
+pub fn notice([by, to, groups, reserves]: [&[u64]; 4], n: usize, [a, b]: [&mut [u64]; 2]) -> bool {
     // SAFETY: every pointer comes with the length of the slice it is of, and
     // the function writes inside the slices that are lent as mutable alone.
     unsafe {
@@ -78,6 +91,10 @@ pub fn notice(by: &[u64], to: &[u64], n: usize, [a, b]: [&mut [u64]; 2]) -> bool
             by.len(),
             to.as_ptr(),
             to.len(),
+            groups.as_ptr(),
+            groups.len(),
+            reserves.as_ptr(),
+            reserves.len(),
             n,
             a.as_mut_ptr(),
             a.len(),
@@ -90,8 +107,7 @@ pub fn notice(by: &[u64], to: &[u64], n: usize, [a, b]: [&mut [u64]; 2]) -> bool
 /// Whether the arguments were in order. The slices written are the revised
 /// amounts, and the scaled ones above 0 and below it.
 pub fn scaled(
-    by: &[u64],
-    to: &[u64],
+    [by, to, groups, reserves]: [&[u64]; 4],
     received: &[u64],
     n: usize,
     [a, b, c]: [&mut [u64]; 3],
@@ -103,6 +119,10 @@ pub fn scaled(
             by.len(),
             to.as_ptr(),
             to.len(),
+            groups.as_ptr(),
+            groups.len(),
+            reserves.as_ptr(),
+            reserves.len(),
             received.as_ptr(),
             received.len(),
             n,
@@ -119,8 +139,7 @@ pub fn scaled(
 /// The rounds, or more than 64 where the arguments are not in order. The slices
 /// written are paid, claims and arrears.
 pub fn settle(
-    by: &[u64],
-    to: &[u64],
+    [by, to, groups, reserves]: [&[u64]; 4],
     received: &[u64],
     n: usize,
     [a, b, c]: [&mut [u64]; 3],
@@ -132,6 +151,10 @@ pub fn settle(
             by.len(),
             to.as_ptr(),
             to.len(),
+            groups.as_ptr(),
+            groups.len(),
+            reserves.as_ptr(),
+            reserves.len(),
             received.as_ptr(),
             received.len(),
             n,

@@ -5,6 +5,7 @@ mod compare;
 mod library;
 mod proportions;
 mod refused;
+mod refused_groups;
 mod slices;
 
 use compare::Count;
@@ -26,6 +27,8 @@ fn print_reach(count: &Count, refusals: u64, proportions: u64) {
     println!("{} cells below n, {} late receipts", count.cells, count.late);
     println!("{} numbers of participants, {least} months or more of each", participants.len());
     println!("{some} months with rounds, at most {most}");
+    count.kinds.print("months");
+    println!("{} months with another payable row than groups of one", count.other_rows);
     println!("{refusals} sets of arguments for the refusals");
     println!("{proportions} proportions");
 }
@@ -37,7 +40,7 @@ fn main() -> ExitCode {
         count.month(&format!("seed {seed}"), &months::month(seed), rest);
         let n = (seed / 2 % 64 + 1) as usize;
         let name = format!("seed {seed}, n {n}");
-        count.month(&name, &months::month_of(!seed, n), rest);
+        count.month(&name, &months::month_in(!seed, months::any_making(!seed, n)), rest);
     }
     let refusals = count.refusals();
     let proportions = count.proportions();
@@ -46,7 +49,11 @@ fn main() -> ExitCode {
     }
     print_reach(&count, refusals, proportions);
     println!("months: {} compared, {} differences", count.months, count.differences.len());
-    if count.differences.is_empty() {
+    let covered = count.kinds.covered() && count.other_rows > 0;
+    if !covered {
+        println!("too little was compared");
+    }
+    if covered && count.differences.is_empty() {
         ExitCode::SUCCESS
     } else {
         ExitCode::FAILURE

@@ -1,21 +1,25 @@
-//! Arguments that no month of 01 has: refused, and nothing is written.
+//! Arguments that no month of 01 and 02 has: refused, and nothing is written.
 //! Their neighbours at the limit are taken.
 
 use crate::compare::Count;
 use crate::library;
+use crate::refused_groups;
 use crate::slices::{self, Rest, BEFORE, PLACES, TIER_PLACES};
 use reckoning::book::MOST_TOTAL;
+use reckoning::making::Making;
 use reckoning::months::{self, Month};
 
 /// The last participant.
-const LAST: usize = PLACES - 1;
+pub const LAST: usize = PLACES - 1;
 
 /// The arguments of all four exports.
 #[derive(Clone)]
-struct Arguments {
+pub struct Arguments {
     by: Vec<u64>,
     to: Vec<u64>,
-    received: Vec<u64>,
+    pub groups: Vec<u64>,
+    pub reserves: Vec<u64>,
+    pub received: Vec<u64>,
     claims: Vec<u64>,
     paid: Vec<u64>,
     money: u64,
@@ -26,36 +30,39 @@ struct Arguments {
 
 /// Which of the exports refuse.
 #[derive(Clone, Copy)]
-struct Refuse {
+pub struct Refuse {
     notice: bool,
     settlement: bool,
     late: bool,
 }
 
-const NONE: Refuse = Refuse { notice: false, settlement: false, late: false };
+pub const NONE: Refuse = Refuse { notice: false, settlement: false, late: false };
 const ALL: Refuse = Refuse { notice: true, settlement: true, late: true };
-const BUT_LATE: Refuse = Refuse { late: false, ..ALL };
-const SETTLEMENT: Refuse = Refuse { settlement: true, ..NONE };
+pub const BUT_LATE: Refuse = Refuse { late: false, ..ALL };
+pub const SETTLEMENT: Refuse = Refuse { settlement: true, ..NONE };
 const LATE: Refuse = Refuse { late: true, ..NONE };
 
-type Case = (&'static str, Arguments, Refuse);
+pub type Case = (&'static str, Arguments, Refuse);
 
 fn word(cents: u128) -> u64 {
     cents.try_into().expect("64 bits")
 }
 
-/// A month of 64 participants in which money comes late, and the first and the last have to pay.
-fn some_month() -> Month {
+/// A month of n participants, groups of one, in which money comes late, and the first and the last
+/// have to pay.
+fn some_month(n: usize) -> Month {
     let fits =
-        |month: &Month| !month.late.is_empty() && month.payable[0] > 0 && month.payable[LAST] > 0;
-    (0..).map(|seed| months::month_of(seed, PLACES)).find(fits).expect("there are many")
+        |month: &Month| !month.late.is_empty() && month.payable[0] > 0 && month.payable[n - 1] > 0;
+    (0..).map(|seed| months::month_of(seed, n)).find(fits).expect("there are many")
 }
 
 impl Arguments {
-    fn of(month: &Month) -> Arguments {
+    pub fn of(month: &Month) -> Arguments {
         Arguments {
             by: slices::row(&month.sums.by, Rest::Zero),
             to: slices::tiers(&month.sums, Rest::Zero),
+            groups: slices::groups(&month.making, Rest::Zero),
+            reserves: slices::reserves(&month.making, Rest::Zero),
             received: slices::row(&month.received, Rest::Zero),
             claims: slices::row(&month.claim, Rest::Zero),
             paid: slices::row(&month.paid, Rest::Zero),
@@ -71,6 +78,8 @@ impl Arguments {
         let mut with = Arguments {
             by: none.clone(),
             to: vec![0; TIER_PLACES],
+            groups: slices::groups(&Making::alone(PLACES as u64), Rest::Zero),
+            reserves: none.clone(),
             received: none.clone(),
             claims: none.clone(),
             paid: none,
@@ -84,7 +93,7 @@ impl Arguments {
     }
 
     /// The same but for one change.
-    fn but(&self, change: impl Fn(&mut Arguments)) -> Arguments {
+    pub fn but(&self, change: impl Fn(&mut Arguments)) -> Arguments {
         let mut with = self.clone();
         change(&mut with);
         with
@@ -168,7 +177,9 @@ fn written(slices: &[Vec<u64>]) -> bool {
 impl Count {
     /// What each export answers, and whether it wrote.
     fn answers(&mut self, name: &str, with: &Arguments, refuse: &Refuse) {
-        let Arguments { by, to, received, claims, paid, money, n, lengths } = with;
+        let Arguments { by, to, groups, reserves, received, claims, paid, money, n, lengths } =
+            with;
+        let given = [&by[..], to, groups, reserves];
         let lent = || lengths.map(|length| vec![BEFORE; length]);
         let mut note = |export: &str, refused: bool, taken: bool, out: &[Vec<u64>]| {
             self.number(&format!("{name}: {export} taken"), u64::from(!refused), taken.into());
@@ -176,15 +187,15 @@ impl Count {
         };
         let mut out = lent();
         let [a, b, _] = &mut out;
-        let taken = library::notice(by, to, *n, [a, b]);
+        let taken = library::notice(given, *n, [a, b]);
         note("notice", refuse.notice, taken, &out);
         let mut out = lent();
         let [a, b, c] = &mut out;
-        let taken = library::scaled(by, to, received, *n, [a, b, c]);
+        let taken = library::scaled(given, received, *n, [a, b, c]);
         note("scaled", refuse.settlement, taken, &out);
         let mut out = lent();
         let [a, b, c] = &mut out;
-        let rounds = library::settle(by, to, received, *n, [a, b, c]);
+        let rounds = library::settle(given, received, *n, [a, b, c]);
         note("settle", refuse.settlement, rounds <= PLACES as u64, &out);
         let mut out = lent();
         let taken = library::late(to, claims, paid, *money, *n, &mut out[0]);
@@ -193,13 +204,17 @@ impl Count {
 
     /// All refusals; how many sets of arguments were put to the exports.
     pub fn refusals(&mut self) -> u64 {
-        let month = some_month();
+        let month = some_month(PLACES);
         let right = Arguments::of(&month);
+        let of_63 = Arguments::of(&some_month(LAST));
         let cases = [
             numbers_and_lengths(&right),
             sides(&right),
             receipts(&month, &right),
             late(&month, &right),
+            refused_groups::groups(&right, &of_63),
+            refused_groups::reserves(&right),
+            refused_groups::receipts(),
         ]
         .concat();
         for (name, with, refuse) in &cases {

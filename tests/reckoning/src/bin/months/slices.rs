@@ -1,5 +1,6 @@
 //! Rows as the slices that the library takes and writes.
 
+use reckoning::making::{Making, GROUPS};
 use reckoning::month::{Sums, TIERS};
 
 pub const PLACES: usize = 64;
@@ -7,7 +8,7 @@ pub const TIER_PLACES: usize = TIERS * PLACES;
 
 /// Each cell that is lent before a call.
 pub const BEFORE: u64 = 0xBEF0_0E00_0000_0001;
-/// Cells that are lent past the 64 that are written.
+/// Cells past the 64 that are written, or that count.
 const PAST: usize = 2;
 
 /// What stands past n in the slices passed: nothing may be read there.
@@ -31,6 +32,24 @@ pub fn row(cents: &[u128], rest: Rest) -> Vec<u64> {
 /// All tiers of a month in 320 cells: participant i's tier t, from 0 on, at 5 i + t.
 pub fn tiers(sums: &Sums, rest: Rest) -> Vec<u64> {
     slice(sums.to.iter().flatten().copied(), TIER_PLACES, rest)
+}
+
+/// Group numbers, and cells past the 64 that count where the rest is the most.
+pub fn groups(making: &Making, rest: Rest) -> Vec<u64> {
+    let numbers = making.numbers().iter().map(|&group| group.into());
+    with_cells_past(slice(numbers, GROUPS, rest), rest)
+}
+
+/// The reserves of all 64 groups, and cells past them as for group numbers.
+pub fn reserves(making: &Making, rest: Rest) -> Vec<u64> {
+    with_cells_past(making.reserves.to_vec(), rest)
+}
+
+fn with_cells_past(mut cells: Vec<u64>, rest: Rest) -> Vec<u64> {
+    if let Rest::Most = rest {
+        cells.extend([u64::MAX; PAST]);
+    }
+    cells
 }
 
 /// A slice to write.

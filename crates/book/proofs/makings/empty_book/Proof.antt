@@ -1,7 +1,7 @@
 use Rattle.book.specs.rules.State.{pack, heldIn}
 use borrow.Author.Needs.{needs}
-use Rattle.book.proofs.places.empty_book.Statement.{statement}
-use Rattle.book.proofs.places.empty_book.Tie as tie
+use Rattle.book.proofs.makings.empty_book.Statement.{statement}
+use Rattle.book.proofs.makings.empty_book.Tie as tie
 
 fresh-period-requires : tie.Need-fresh-period-requires
 fresh-period-requires c κs = search needs

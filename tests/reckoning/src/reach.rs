@@ -1,0 +1,215 @@
+//! How far trials reach into books that are made with groups and reserves (02, a).
+
+use crate::book::{Answer, Book, Period, Stage};
+use crate::codec::{Entry, NOTICE, RECEIPT, SETTLE};
+use crate::compare::print_answers;
+use crate::kinds::Kinds;
+use crate::making::Making;
+use crate::month;
+use crate::refusals::*;
+use std::collections::BTreeMap;
+
+/// What was seen in books that were made with groups and reserves.
+#[derive(Clone, Debug, Default)]
+pub struct Reach {
+    /// Makings by answer.
+    pub makings: [u64; NUMBERS],
+    /// Entries that came to a book refused with 3.
+    pub to_refused: u64,
+    /// Settled months by groups and reserves.
+    pub kinds: Kinds,
+    /// Settled months whose payable row groups of one and no reserves would not give; those of
+    /// them with arrears, and with rounds; and late receipts in them.
+    pub other_rows: u64,
+    pub with_arrears: u64,
+    pub with_rounds: u64,
+    pub late: u64,
+    /// Where a payer's payable amount is another one by its group: receipts that reach it, and
+    /// refused ones that pass it by a cent.
+    pub up_to_payable: u64,
+    pub a_cent_above: u64,
+}
+
+impl Reach {
+    fn numbers(&mut self) -> [&mut u64; 7] {
+        [
+            &mut self.to_refused,
+            &mut self.other_rows,
+            &mut self.with_arrears,
+            &mut self.with_rounds,
+            &mut self.late,
+            &mut self.up_to_payable,
+            &mut self.a_cent_above,
+        ]
+    }
+
+    pub fn add(&mut self, other: &Reach) {
+        self.makings.iter_mut().zip(other.makings).for_each(|(to, from)| *to += from);
+        self.kinds.add(&other.kinds);
+        let mut other = other.clone();
+        for (to, from) in self.numbers().into_iter().zip(other.numbers()) {
+            *to += *from;
+        }
+    }
+
+    /// Whether every shape, every kind of reserves, every answer to a making and all else was seen.
+    pub fn covered(&self) -> bool {
+        let answers = [ACCEPTED, FIELD_OUTSIDE, N_REFUSED];
+        answers.iter().all(|&number| self.makings[usize::from(number)] > 0)
+            && self.kinds.covered()
+            && self.clone().numbers().iter().all(|count| **count > 0)
+    }
+
+    pub fn print(&self) {
+        print_answers("answers to makings", &self.makings);
+        println!("entries to a book refused with 3: {}", self.to_refused);
+        self.kinds.print("settled months");
+        println!(
+            "settled months with another payable row than groups of one: {}, {} with arrears, {} \
+             with rounds, {} late receipts",
+            self.other_rows, self.with_arrears, self.with_rounds, self.late
+        );
+        println!(
+            "receipts up to another payable amount: {}, a cent above it: {}",
+            self.up_to_payable, self.a_cent_above
+        );
+    }
+}
+
+/// Watches the books of a trial. Those that are made without groups and reserves do not count.
+#[derive(Default)]
+pub struct Watch {
+    pub reach: Reach,
+    /// Whether the book was made with groups and reserves, and the answer.
+    made: Option<u8>,
+    /// What groups of one and no reserves would give, for each month with another payable row.
+    rows_of_one: BTreeMap<u32, Vec<u128>>,
+}
+
+impl Watch {
+    /// A book was made as the listing makes one.
+    pub fn made_alone(&mut self) {
+        self.made = None;
+        self.rows_of_one.clear();
+    }
+
+    /// A book was made with groups and reserves.
+    pub fn made(&mut self, answer: u8) {
+        self.made = Some(answer);
+        self.rows_of_one.clear();
+        self.reach.makings[usize::from(answer)] += 1;
+    }
+
+    /// An entry was put to a book, and the period that it names was as given before.
+    pub fn applied(&mut self, book: &Book, before: Option<&Period>, entry: &Entry, answer: Answer) {
+        if self.made.is_none() {
+            return;
+        }
+        match (entry.kind, answer.number) {
+            (_, N_REFUSED) => {
+                self.reach.to_refused += u64::from(self.made == Some(FIELD_OUTSIDE));
+            }
+            (NOTICE, ACCEPTED) => self.noticed(book, entry.period),
+            (SETTLE, ACCEPTED) => self.settled(book, entry.period, answer.rounds),
+            (RECEIPT, number) => {
+                if let Some(before) = before {
+                    self.received(before, entry, number);
+                }
+            }
+            _ => (),
+        }
+    }
+
+    fn noticed(&mut self, book: &Book, number: u32) {
+        let period = &book.periods[&number];
+        let of_one = month::notice(&period.sums, &Making::alone(book.n as u64)).payable;
+        if let Stage::Noticed(notice) = &period.stage {
+            if notice.payable != of_one {
+                self.rows_of_one.insert(number, of_one);
+            }
+        }
+    }
+
+    fn settled(&mut self, book: &Book, number: u32, rounds: u64) {
+        let reach = &mut self.reach;
+        reach.kinds.take(&book.making);
+        if self.rows_of_one.contains_key(&number) {
+            reach.other_rows += 1;
+            reach.with_arrears += u64::from(book.periods.contains_key(&number));
+            reach.with_rounds += u64::from(rounds > 0);
+        }
+    }
+
+    /// A receipt on a period, which was answered with a number.
+    fn received(&mut self, before: &Period, entry: &Entry, number: u8) {
+        let Some(of_one) = self.rows_of_one.get(&entry.period) else {
+            return;
+        };
+        let (payer, cents) = (usize::from(entry.participant), u128::from(entry.cents));
+        match (&before.stage, number) {
+            (Stage::Settled { .. }, ACCEPTED) => self.reach.late += 1,
+            (Stage::Noticed(notice), _) if notice.payable.get(payer) != of_one.get(payer) => {
+                let most = before.most_receipt(payer);
+                let above = number == RECEIPT_ABOVE && cents == most + 1;
+                self.reach.up_to_payable += u64::from(number == ACCEPTED && cents == most);
+                self.reach.a_cent_above += u64::from(above);
+            }
+            _ => (),
+        }
+    }
+}
+
+#[cfg(test)]
+mod tests {
+    use super::*;
+    use crate::trial;
+    use crate::trials;
+    use crate::trials_of_groups::{every_trial, Named};
+
+    fn reach_of(trials: impl Iterator<Item = Vec<u8>>) -> Reach {
+        let mut reach = Reach::default();
+        trials.for_each(|calls| reach.add(&trial::lines_by(Book::make, &calls).1));
+        reach
+    }
+
+    /// Each count of the reach, one after the other, as if it was never seen.
+    fn without_one(reach: &Reach) -> Vec<Reach> {
+        let mut all = Vec::new();
+        let mut without = |change: &dyn Fn(&mut Reach)| {
+            let mut less = reach.clone();
+            change(&mut less);
+            all.push(less);
+        };
+        [0, 3, 4].iter().for_each(|&number| without(&|less| less.makings[number] = 0));
+        (0..reach.kinds.shapes.len())
+            .for_each(|place| without(&|less| less.kinds.shapes[place] = 0));
+        (0..reach.kinds.reserves.len())
+            .for_each(|place| without(&|less| less.kinds.reserves[place] = 0));
+        (0..reach.clone().numbers().len())
+            .for_each(|place| without(&|less| *less.numbers()[place] = 0));
+        all
+    }
+
+    #[test]
+    fn the_trials_cover_all_and_a_part_of_it_is_too_little() {
+        let reach = reach_of(every_trial().map(|(_, calls)| calls));
+        assert!(reach.covered(), "{reach:?}");
+        let less = without_one(&reach);
+        assert_eq!(less.len(), 3 + 8 + 5 + 7);
+        assert!(less.iter().all(|less| !less.covered()));
+    }
+
+    #[test]
+    fn each_part_of_the_trials_alone_is_too_little() {
+        for part in ["making", "rounds"] {
+            let of_part = every_trial().filter(|(name, _): &Named| name.contains(part));
+            assert!(!reach_of(of_part.map(|(_, calls)| calls)).covered(), "{part}");
+        }
+    }
+
+    #[test]
+    fn books_of_groups_of_one_do_not_count() {
+        let reach = reach_of((0..10).map(trials::trial));
+        assert_eq!(format!("{reach:?}"), format!("{:?}", Reach::default()));
+    }
+}
