@@ -74,14 +74,6 @@ module _ (groups : ℕ → ℕ) (f : ℕ → ℕ) (k : ℕ) where
         sym (sum-add (λ i. cond (eqb (groups i) k) (f i) 0) (λ i. cond (eqb (groups i) k) 0 (f i)) n)
         ∙ sum-cong _ f n (λ i _. split (eqb (groups i) k) (f i))
 
-    pub group-cong : (g : ℕ → ℕ) → ((i : ℕ) → i < n → f i ≡ g i) → groupSum groups n f k ≡ groupSum groups n g k
-    unfolding groupSum
-    group-cong g h = sum-cong _ _ n (λ i l. ap (λ z. cond (eqb (groups i) k) z 0) (h i l))
-
-    pub outside-cong : (g : ℕ → ℕ) → ((i : ℕ) → i < n → f i ≡ g i) → outsideSum groups n f k ≡ outsideSum groups n g k
-    unfolding outsideSum
-    outside-cong g h = sum-cong _ _ n (λ i l. ap (cond (eqb (groups i) k) 0) (h i l))
-
     -- a group without members has nothing
     nobody : ((i : ℕ) → i < n → groups i ≡ k → ⊥) → groupSum groups n f k ≡ 0
     unfolding groupSum
@@ -102,21 +94,25 @@ module _ (groups : ℕ → ℕ) (f : ℕ → ℕ) (n : ℕ) (h : groups n < grou
   pub group-room : (m : ℕ) → n < m → at (cells (groupSum groups n f) groupCount) (groups n) + f n ≤ sum f m
   group-room m l = omega (arith, grown, group-outside groups f (groups n) (n + 1), sum-part f (n + 1) m (omega arith))
 
--- group numbers below n and reserves decide retention
-module _ (m : Month) (a b : Grouping) (numbers : (i : ℕ) → i < m .n → at (a .groups) i ≡ at (b .groups) i)
-    (reserves : (k : ℕ) → k < groupCount → at (a .reserves) k ≡ at (b .reserves) k) where
-  same-members : (f : ℕ → ℕ) (k : ℕ) → groupSum (at (a .groups)) (m .n) f k ≡ groupSum (at (b .groups)) (m .n) f k
+-- sums by group go by the group numbers and the cells below n
+module _ (n k : ℕ) {groups numbers f g : ℕ → ℕ} (same : (i : ℕ) → i < n → groups i ≡ numbers i) (cell : (i : ℕ) → i < n → f i ≡ g i) where
+  pub group-cong : groupSum groups n f k ≡ groupSum numbers n g k
   unfolding groupSum
-  same-members f k = sum-cong _ _ (m .n) (λ i h. ap (λ z. cond (eqb z k) (f i) 0) (numbers i h))
+  group-cong = sum-cong _ _ n (λ i h z. cond (eqb (same i h z) k) (cell i h z) 0)
 
-  same-outside : (f : ℕ → ℕ) (k : ℕ) → outsideSum (at (a .groups)) (m .n) f k ≡ outsideSum (at (b .groups)) (m .n) f k
+  pub outside-cong : outsideSum groups n f k ≡ outsideSum numbers n g k
   unfolding outsideSum
-  same-outside f k = sum-cong _ _ (m .n) (λ i h. ap (λ z. cond (eqb z k) 0 (f i)) (numbers i h))
+  outside-cong = sum-cong _ _ n (λ i h z. cond (eqb (same i h z) k) 0 (cell i h z))
 
-  pub retention-cong : (i : ℕ) → groupRetention m a i ≡ groupRetention m b i
-  unfolding groupRetention groupShortfall outsideTier5
-  retention-cong i =
-      largest-cong _ _ groupCount (λ k h. rw (same-members (m .by) k, same-members (owingTo m) k, reserves k h, same-outside (tier5 m) k))
+-- so group numbers below n and reserves decide retention
+pub retention-cong : (m : Month) (a b : Grouping) → ((i : ℕ) → i < m .n → at (a .groups) i ≡ at (b .groups) i)
+    → ((k : ℕ) → k < groupCount → at (a .reserves) k ≡ at (b .reserves) k) → (i : ℕ) → groupRetention m a i ≡ groupRetention m b i
+unfolding groupRetention groupShortfall outsideTier5
+retention-cong m a b numbers reserves i =
+    largest-cong _ _ groupCount (λ k h z. gives
+    (shortfallWithReserve (group-cong (m .n) k {f = m .by} numbers (λ _ _. refl) z) (group-cong (m .n) k {f = owingTo m} numbers (λ _ _. refl) z) (reserves k h z))
+    (outside-cong (m .n) k {f = tier5 m} numbers (λ _ _. refl) z)
+    (tier5 m i))
 
 -- a group has a member below n, or none
 member : (groups : ℕ → ℕ) (k n : ℕ) → ((p : ℕ) × (p < n) × (groups p ≡ k)) ⊎ ((i : ℕ) → i < n → groups i ≡ k → ⊥)

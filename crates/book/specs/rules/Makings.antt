@@ -25,7 +25,7 @@ makingChecks m =
     ∷ on (not (groupingAllowed (m .n) (m .grouping))) 3
     ∷ []
 
--- the groups that retention goes by: numbers from n on are not looked at, and the book keeps 0 there
+-- the groups that the book keeps: numbers from n on are not looked at, and are 0 there
 abbrev pub groupingOf : Making → Grouping
 groupingOf m = record { groups = cells (at (m .grouping .groups)) (m .n); reserves = m .grouping .reserves }
 

@@ -1,6 +1,6 @@
 -- Each row is reckoned from the rows before it, by 01's and 02's formula for it.
 use Prim.Native.Nat.{_+_, _-_, _≤_}
-use mathlib.Core.Path.{_≡_, _∙_}
+use mathlib.Core.Path.{_≡_, refl, _∙_}
 use native.Mathlib.Omega.{arith}
 use Rattle.exact.specs.Rows.{at, sum, cells}
 use Rattle.exact.proofs.RowLaws.{cells-both, cells-cong, Holds, holds, holds-own, sum-holds, sum-term, largest-cong}
@@ -32,7 +32,7 @@ to-sums c =
     let t = c .before .before .before .before .before in
     let x = t .before .args in
     let owing = holds (owingTo (month (x .n) (x .by) (x .to))) (x .n) (t .over-tiers .ensures) in
-    holds _ groupCount (c .group-sums2 .ensures ∙ cells-cong _ _ groupCount (λ k _. group-cong (at (x .grouping .groups)) _ k (x .n) _ (owing .reads)))
+    holds _ groupCount (c .group-sums2 .ensures ∙ cells-cong _ _ groupCount (λ k _. group-cong (x .n) k (λ _ _. refl) (owing .reads)))
 
 short : (c : tie.After-shortfalls) → let x = c .before .before .before .before .before .before .before .args in
     Holds (c .shortfalls .result) (groupShortfall (month (x .n) (x .by) (x .to)) (x .grouping)) groupCount
@@ -47,7 +47,7 @@ unfolding outsideTier5
 outside c =
     let t = c .before .before .before .before .before .before in
     let x = t .before .before .args in
-    holds _ groupCount (c .outside-sums .ensures ∙ cells-cong _ _ groupCount (λ k _. outside-cong (at (x .grouping .groups)) _ k (x .n) _ (parts t .reads)))
+    holds _ groupCount (c .outside-sums .ensures ∙ cells-cong _ _ groupCount (λ k _. outside-cong (x .n) k (λ _ _. refl) (parts t .reads)))
 
 kept : (c : tie.After-largest-gifts) → let x = c .before .before .before .before .before .before .before .before .before .args in
     c .largest-gifts .result ≡ cells (groupRetention (month (x .n) (x .by) (x .to)) (x .grouping)) (x .n)
