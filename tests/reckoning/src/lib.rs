@@ -1,4 +1,4 @@
-//! A reckoning of 01, with request a of 02, on u128, written from the rules alone. It
+//! A reckoning of 01, with requests a and b of 02, on u128, written from the rules alone. It
 //! shares no code and no definitions with the clearing book that is tested by it.
 
 pub mod aim;
@@ -38,6 +38,8 @@ mod wrong;
 mod examples;
 #[cfg(test)]
 mod examples_of_groups;
+#[cfg(test)]
+mod examples_of_halves;
 #[cfg(test)]
 mod tests_of_book;
 #[cfg(test)]
