@@ -2,7 +2,8 @@
 //! that fit the book as it stands, so that many months come to settlement.
 
 use crate::book::{Book, Period, Stage, MOST_PERIODS, MOST_TOTAL};
-use crate::codec::{Entry, MOST_PRICE, MOST_QUANTITY};
+use crate::codec::Entry;
+use crate::energies;
 use crate::making::Making;
 use crate::random::Random;
 use std::collections::BTreeSet;
@@ -151,7 +152,9 @@ impl Aim {
             Scale::Millions => self.random.between(1, 1_000_000_000),
             Scale::Bound => {
                 let part = self.random.between(1, room.max(1));
-                self.random.pick(&[1, 2, part, part, part, room, room.saturating_sub(1)])
+                let but_for_a_half = room.saturating_sub(self.random.pick(&energies::ROOMS));
+                let nearly = room.saturating_sub(1);
+                self.random.pick(&[1, 2, part, part, part, room, nearly, but_for_a_half])
             }
         };
         cents.clamp(1, room.max(1))
@@ -159,28 +162,13 @@ impl Aim {
 
     fn any_energy(&mut self, number: u32, side: u8) -> Entry {
         let participant = self.participant_on(side);
-        let (quantity, price) = self.any_quantity_and_price();
-        Entry::energy(number, participant, side, quantity, price)
-    }
-
-    fn any_quantity_and_price(&mut self) -> (u32, u32) {
-        let random = &mut self.random;
-        let (quantity, price) = match self.manner.scale {
-            // Products of an odd number of 10,000 come to a half.
-            Scale::Few if random.chance(1, 3) => (random.pick(&[1, 3, 10, 20, 30]) * 100, 100),
-            Scale::Few => (random.below(120), random.below(120)),
-            Scale::Hundreds => (random.below(2_000), random.below(150)),
-            Scale::Millions => (random.below(1_000_000), random.below(1_000_000)),
-            Scale::Bound => {
-                let (most, dearest) = (u64::from(MOST_QUANTITY), u64::from(MOST_PRICE));
-                let (q, p) = (random.below(most), random.below(dearest));
-                (
-                    random.pick(&[0, 1, q, most - 1, most]),
-                    random.pick(&[0, 1, p, dearest - 1, dearest]),
-                )
-            }
+        let room = MOST_TOTAL - self.book.periods[&number].sums.total(side);
+        let half = energies::half_for(&mut self.random, room);
+        let (quantity, price) = match half {
+            Some(half) if self.random.chance(2, 3) => half,
+            _ => energies::any(&mut self.random, self.manner.scale),
         };
-        (quantity as u32, price as u32)
+        Entry::energy(number, participant, side, quantity, price)
     }
 
     /// Payers that can still pay on a period and that no earlier arrears bar.

@@ -8,6 +8,7 @@ pub mod codec;
 pub mod compare;
 pub mod damage;
 pub mod demand3;
+pub mod energies;
 pub mod feeds;
 pub mod groupings;
 pub mod handover;

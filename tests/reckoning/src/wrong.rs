@@ -82,7 +82,7 @@ impl Aim {
         let room = (MOST_TOTAL - self.book.periods[&number].sums.total(side)) as u64;
         let cents = self.random.near(room);
         if cents <= 11_000 && self.random.chance(1, 2) {
-            // The lowest price that comes to so many cents for 1 kWh.
+            // The lowest price that comes to so many cents, or to the half below them, for 1 kWh.
             let price = (cents * 100_000).saturating_sub(50_000).div_ceil(115);
             return Entry::energy(number, participant, side, 1, price as u32);
         }
