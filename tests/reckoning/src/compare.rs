@@ -1,6 +1,7 @@
 //! Compares two programs with the reckoning on feeds and trials from fixed seeds.
 
 use crate::feeds::{self, KINDS};
+use crate::halves::Halves;
 use crate::handover::handover;
 use crate::judge::{judge_listing, judge_trial};
 use crate::pairs;
@@ -31,6 +32,8 @@ struct Totals {
     tried: [u64; NUMBERS],
     rounds: Vec<u64>,
     reach: Reach,
+    listed_halves: Halves,
+    tried_halves: Halves,
 }
 
 fn add(to: &mut [u64], from: &[u64]) {
@@ -73,6 +76,7 @@ impl Totals {
                 self.left += count.months_left;
                 self.with_arrears += count.months_with_arrears;
                 add(&mut self.listed, &count.answers);
+                self.listed_halves.add(&count.halves);
             }
         }
     }
@@ -87,7 +91,8 @@ impl Totals {
                 add(&mut self.tried, &count.answers);
                 self.rounds.resize(count.rounds.len(), 0);
                 add(&mut self.rounds, &count.rounds);
-                self.reach.add(&count.reach);
+                self.reach.add(&count.seen.reach);
+                self.tried_halves.add(&count.seen.halves);
             }
         }
     }
@@ -99,6 +104,8 @@ impl Totals {
             && self.calls >= LEAST_CALLS
             && self.tried.iter().all(|&count| count > 0)
             && self.reach.covered()
+            && self.listed_halves.covered()
+            && self.tried_halves.covered()
             && self.listed.iter().enumerate().all(|(number, &count)| number == 5 || count > 0);
         if !enough {
             println!("too little was compared");
@@ -111,6 +118,8 @@ impl Totals {
         print_answers("answers in trials", &self.tried);
         print_answers("apply calls by rounds", &self.rounds);
         self.reach.print();
+        self.listed_halves.print("listings");
+        self.tried_halves.print("trials");
         println!(
             "months settled with arrears: {}, months that left: {}",
             self.with_arrears, self.left

@@ -3,6 +3,7 @@
 
 use crate::book::cents_and_tier;
 use crate::codec::{self, Entry, Field, AMOUNT, ENERGY, NOTICE, OPEN, RECEIPT, SETTLE};
+use crate::halves::{Half, Halves};
 use crate::lines::{self, Line};
 use crate::making::Making;
 use crate::month::{self, Notice, StepOne, Sums, TIERS};
@@ -18,6 +19,7 @@ pub struct Count {
     pub months_with_arrears: u64,
     /// How often each answer was given.
     pub answers: [u64; NUMBERS],
+    pub halves: Halves,
 }
 
 /// A period by the accepted entries that name it.
@@ -190,6 +192,9 @@ impl Ledger {
     fn entry(&mut self, entry: &Entry, line: &Line) -> Result<(), String> {
         let payouts = line.payouts(self.n)?;
         check(sum(&payouts) == line.paid, "the line's paid is not the sum of its payouts")?;
+        let account = self.in_book.get(&entry.period);
+        let half = account.and_then(|account| Half::of(entry, &account.sums));
+        self.count.halves.take(half, line.answer);
         if line.answer == ACCEPTED {
             self.accepted(entry, &payouts)?;
         } else {

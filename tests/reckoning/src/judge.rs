@@ -3,9 +3,8 @@
 use crate::book::Book;
 use crate::demand3::{self, Count};
 use crate::listing::listing;
-use crate::reach::Reach;
 use crate::refusals::NUMBERS;
-use crate::trial;
+use crate::trial::{self, Seen};
 
 fn shown(line: Option<&&[u8]>) -> String {
     match line {
@@ -52,13 +51,12 @@ pub struct Calls {
     pub answers: [u64; NUMBERS],
     /// How many apply calls were answered with so many rounds.
     pub rounds: Vec<u64>,
-    /// How far the calls reach into books made with groups and reserves.
-    pub reach: Reach,
+    pub seen: Seen,
 }
 
 /// Counts the lines that the reckoning gives for a trial.
-fn count(lines: &[u8], reach: Reach) -> Calls {
-    let mut calls = Calls { rounds: vec![0; 65], reach, ..Calls::default() };
+fn count(lines: &[u8], seen: Seen) -> Calls {
+    let mut calls = Calls { rounds: vec![0; 65], seen, ..Calls::default() };
     let text = std::str::from_utf8(lines).expect("text");
     for line in text.lines() {
         let words: Vec<&str> = line.split(' ').collect();
@@ -73,9 +71,9 @@ fn count(lines: &[u8], reach: Reach) -> Calls {
 
 /// What the lines found for a trial came to, or how they differ.
 pub fn judge_trial(calls: &[u8], found: &[u8]) -> Result<Calls, String> {
-    let (reckoned, reach) = trial::lines_by(Book::make, calls);
+    let (reckoned, seen) = trial::lines_by(Book::make, calls);
     match first_difference(&reckoned, found) {
         Some(difference) => Err(difference),
-        None => Ok(count(&reckoned, reach)),
+        None => Ok(count(&reckoned, seen)),
     }
 }

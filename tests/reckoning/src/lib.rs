@@ -11,6 +11,7 @@ pub mod demand3;
 pub mod energies;
 pub mod feeds;
 pub mod groupings;
+pub mod halves;
 pub mod handover;
 pub mod judge;
 pub mod kinds;

@@ -168,7 +168,7 @@ mod tests {
 
     fn reach_of(trials: impl Iterator<Item = Vec<u8>>) -> Reach {
         let mut reach = Reach::default();
-        trials.for_each(|calls| reach.add(&trial::lines_by(Book::make, &calls).1));
+        trials.for_each(|calls| reach.add(&trial::lines_by(Book::make, &calls).1.reach));
         reach
     }
 

@@ -2,6 +2,7 @@
 
 use crate::book::Book;
 use crate::codec::{self, Entry, Field};
+use crate::halves::{Half, Halves};
 use crate::making::Making;
 use crate::reach::{Reach, Watch};
 use crate::refusals::ACCEPTED;
@@ -64,11 +65,21 @@ fn take_making(input: &mut impl Read) -> Option<Making> {
 /// Makes a book: the book, and 0 or the refusal's number.
 pub type Make = fn(&Making) -> (Book, u8);
 
+/// What was seen in a trial.
+#[derive(Clone, Debug, Default)]
+pub struct Seen {
+    /// In books made with groups and reserves.
+    pub reach: Reach,
+    /// In all books.
+    pub halves: Halves,
+}
+
 /// The book that calls go to, and what makes the next one.
 struct Trial {
     book: Book,
     make: Make,
     watch: Watch,
+    halves: Halves,
 }
 
 fn call_read(input: &mut impl Read) -> Option<String> {
@@ -97,7 +108,7 @@ fn call_write(input: &mut impl Read) -> Option<String> {
 impl Trial {
     fn new(make: Make) -> Trial {
         // Before the first book is made, entries come to one without participants.
-        Trial { book: Book::alone(0), make, watch: Watch::default() }
+        Trial { book: Book::alone(0), make, watch: Watch::default(), halves: Halves::default() }
     }
 
     fn made(&mut self, making: &Making) -> (String, u8) {
@@ -123,7 +134,9 @@ impl Trial {
         let entry = take_entry(input)?;
         let mut words = vec![WORD_BEFORE; take(input, 1)? as usize];
         let before = self.book.periods.get(&entry.period).cloned();
+        let half = before.as_ref().and_then(|period| Half::of(&entry, &period.sums));
         let answer = self.book.apply(&entry, &mut words);
+        self.halves.take(half, answer.number);
         self.watch.applied(&self.book, before.as_ref(), &entry, answer);
         let line = format!("apply {} {} {}", answer.number, answer.rounds, self.book.held());
         Some(with_numbers(line, words))
@@ -154,11 +167,11 @@ pub fn run(input: impl Read, out: &mut impl Write) -> io::Result<()> {
     Trial::new(Book::make).run(input, out)
 }
 
-/// The lines for calls that are in memory, where books are made so, and how far they reach.
-pub fn lines_by(make: Make, calls: &[u8]) -> (Vec<u8>, Reach) {
+/// The lines for calls that are in memory, where books are made so, and what was seen.
+pub fn lines_by(make: Make, calls: &[u8]) -> (Vec<u8>, Seen) {
     let (mut trial, mut out) = (Trial::new(make), Vec::new());
     trial.run(calls, &mut out).expect("memory takes every byte");
-    (out, trial.watch.reach)
+    (out, Seen { reach: trial.watch.reach, halves: trial.halves })
 }
 
 /// The lines for calls that are in memory.
