@@ -3,7 +3,7 @@
 
 use crate::book::{Book, Period, Stage, MOST_PERIODS, MOST_TOTAL};
 use crate::codec::Entry;
-use crate::energies;
+use crate::energies::{self, Energy};
 use crate::making::Making;
 use crate::random::Random;
 use std::collections::BTreeSet;
@@ -105,10 +105,15 @@ impl Aim {
     /// Energy or an amount for a period before its notice.
     pub fn energy_or_amount(&mut self, number: u32) -> Entry {
         let side = self.random.below(2) as u8;
-        if self.random.chance(1, 3) {
-            return self.any_energy(number, side);
-        }
         let room = MOST_TOTAL - self.book.periods[&number].sums.total(side);
+        let half = energies::half_for(&mut self.random, room);
+        if let Some(half) = half.filter(|_| self.random.chance(2, 3)) {
+            return self.energy_on(number, side, half);
+        }
+        if self.random.chance(1, 3) {
+            let energy = energies::any(&mut self.random, self.manner.scale);
+            return self.energy_on(number, side, energy);
+        }
         let cents = self.any_cents(room as u64);
         self.amount_on(number, side, cents)
     }
@@ -160,14 +165,8 @@ impl Aim {
         cents.clamp(1, room.max(1))
     }
 
-    fn any_energy(&mut self, number: u32, side: u8) -> Entry {
+    fn energy_on(&mut self, number: u32, side: u8, (quantity, price): Energy) -> Entry {
         let participant = self.participant_on(side);
-        let room = MOST_TOTAL - self.book.periods[&number].sums.total(side);
-        let half = energies::half_for(&mut self.random, room);
-        let (quantity, price) = match half {
-            Some(half) if self.random.chance(2, 3) => half,
-            _ => energies::any(&mut self.random, self.manner.scale),
-        };
         Entry::energy(number, participant, side, quantity, price)
     }
 

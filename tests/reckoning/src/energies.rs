@@ -1,5 +1,5 @@
 //! Quantities and prices of energy entries, drawn by scale: any, those whose amount is an exact half
-//! of a cent, and those whose product is next to one.
+//! of a cent, and those next to one.
 //!
 //! product × 115 / 100,000 is product × 23 / 20,000, an exact half just where the product is an odd
 //! multiple of 10,000.
@@ -13,6 +13,11 @@ pub type Energy = (u32, u32);
 
 /// Some that 10,000 can be divided by, so that both the quantity and the price have a part of it.
 const DIVISORS: [u32; 8] = [1, 8, 16, 25, 100, 625, 2_000, 10_000];
+
+/// What is left over of products by 20,000 next to a half: the two products next to it, and the two
+/// whose amounts are nearest to it, 1 / 20,000 of a cent away (23 × 3,913 is 89,999 and 23 × 16,087
+/// is 370,001).
+const NEXT: [u32; 4] = [9_999, 10_001, 3_913, 16_087];
 
 /// Cents of room on a side that tell how a half is rounded: the product 10,000 comes to 12 cents
 /// and 30,000 to 34, so that the cent less refuses it.
@@ -54,18 +59,16 @@ fn half(random: &mut Random, scale: Scale) -> Energy {
     (quantity, other * odd(random, most.min(MOST_PRICE / other)))
 }
 
-/// One above a multiple of 20,000, times one above or below an odd multiple of 10,000: the product
-/// is one above or below a half.
+/// One above a multiple of 20,000, times a factor that is next to a half by itself.
 fn next_to_half(random: &mut Random, scale: Scale) -> Energy {
-    let (ones, halves) = match scale {
+    let (ones, nexts) = match scale {
         Scale::Few => (0, 1),
         Scale::Hundreds => (0, 12),
         Scale::Millions => (49, 49),
         Scale::Bound => (4_999, 499),
     };
     let one = 20_000 * random.between(0, ones) as u32 + 1;
-    let half = 20_000 * random.between(0, halves) as u32 + 10_000;
-    let next = random.pick(&[half - 1, half + 1]);
+    let next = 20_000 * random.between(0, nexts) as u32 + random.pick(&NEXT);
     match one <= MOST_PRICE && random.chance(1, 2) {
         true => (next, one),
         false => (one, next),
@@ -122,23 +125,25 @@ mod tests {
             let halves = drawn(|random| half(random, scale));
             let products: Vec<u64> = halves.iter().map(product).collect();
             assert!(products.iter().all(|product| product % 20_000 == 10_000));
-            let above_even = |product: &&u64| *product * 115 / 100_000 % 2 == 0;
-            let down = products.iter().filter(above_even).count();
-            assert!((500..2_500).contains(&down), "{scale:?}: {down}");
+            let above_odd = |product: &&u64| *product * 115 / 100_000 % 2 == 1;
+            let up = products.iter().filter(above_odd).count();
+            assert!((500..2_500).contains(&up), "{scale:?}: {up}");
             let largest = [(99_999_999, 9_990_000), (99_999_999, 9_970_000)];
             let has_largest = largest.iter().all(|half| halves.contains(half));
             assert_eq!(has_largest, scale == Scale::Bound);
         }
     }
 
+    /// Of amounts as near as they come, as many are below a half as above it.
     #[test]
     fn what_is_next_to_a_half_is_so_on_both_sides_of_it() {
         for scale in SCALES {
-            let products = drawn(|random| next_to_half(random, scale));
-            let rests = products.iter().map(|next| product(next) % 20_000);
-            let below = rests.clone().filter(|&rest| rest == 9_999).count();
-            let above = rests.filter(|&rest| rest == 10_001).count();
-            assert!(below > 1_000 && below + above == products.len(), "{scale:?}");
+            let all = drawn(|random| next_to_half(random, scale));
+            let rests: Vec<u64> = all.iter().map(|next| product(next) * 115 % 100_000).collect();
+            for rest in [49_885, 50_115, 49_995, 50_005] {
+                let count = rests.iter().filter(|&&found| found == rest).count();
+                assert!((650..850).contains(&count), "{scale:?}: {rest}: {count}");
+            }
         }
     }
 

@@ -34,6 +34,14 @@ fn next_to_a_half_the_nearest_is_taken() {
     assert_eq!([29_999, 30_001].map(|product| energy_cents(1, product)), [34, 35]);
 }
 
+/// 4.49995 and 18.50005 cents. 99,980,001 × 9,996,087 is 999,608,700,000,000 − 199,911,743,913, so
+/// 999,408,788,256,087, and 1,149,320,106,494.50005 cents.
+#[test]
+fn no_amount_is_nearer_to_a_half() {
+    assert_eq!([3_913, 16_087].map(|product| energy_cents(product, 1)), [4, 19]);
+    assert_eq!(energy_cents(99_980_001, 9_996_087), 1_149_320_106_495);
+}
+
 /// A product of 20,000 is 23 cents, of 40,000 is 46 and of 60,000 is 69.
 #[test]
 fn whole_cents_stay_even_or_odd() {
@@ -78,9 +86,10 @@ fn check(quantity: u32, price: u32) -> bool {
     let neighbours = [cents.checked_sub(1), Some(cents + 1)].into_iter().flatten();
     let nearest = neighbours.map(from).min().expect("the one above");
     assert!(from(cents) <= nearest, "{quantity} × {price}");
-    let half = from(cents) == nearest;
-    assert!(!half || cents % 2 == 0, "{quantity} × {price}");
-    half
+    let others_as_near = from(cents) == nearest;
+    let odd = cents % 2 == 1;
+    assert!(!(others_as_near && odd), "{quantity} × {price}");
+    others_as_near
 }
 
 /// All products up to a million, and those about each multiple of 10,000 up to the largest quantity

@@ -106,6 +106,13 @@ impl Halves {
 #[cfg(test)]
 mod tests {
     use super::*;
+    use crate::book::Book;
+    use crate::feeds;
+    use crate::judge::judge_listing;
+    use crate::listing::listing;
+    use crate::trial;
+    use crate::trials::{self, TRIALS};
+    use crate::trials_of_groups;
 
     /// The counts after one energy entry on a side with so much room, answered with a number.
     fn taken(entry: Entry, room: u128, answer: u8) -> Halves {
@@ -162,5 +169,25 @@ mod tests {
             assert!(!less.covered(), "{place}");
             assert_eq!(less.both_ways(), place >= 4);
         }
+    }
+
+    /// Without the cases that are made for halves.
+    #[test]
+    fn trials_from_seeds_cover_every_count() {
+        let mut halves = Halves::default();
+        let of_groups = trials_of_groups::every_trial().map(|(_, calls)| calls);
+        for calls in (0..TRIALS).map(trials::trial).chain(of_groups) {
+            halves.add(&trial::lines_by(Book::make, &calls).1.halves);
+        }
+        assert!(halves.covered(), "{halves:?}");
+    }
+
+    #[test]
+    fn feeds_from_seeds_cover_every_count() {
+        let mut halves = Halves::default();
+        for feed in (0..80).filter_map(|seed| feeds::feed(seed, "bound")) {
+            halves.add(&judge_listing(&feed, &listing(&feed)).unwrap().halves);
+        }
+        assert!(halves.covered(), "{halves:?}");
     }
 }
