@@ -1,5 +1,6 @@
 //! Compares two programs with the reckoning on feeds and trials from fixed seeds.
 
+use crate::cases_of_halves;
 use crate::feeds::{self, KINDS};
 use crate::halves::Halves;
 use crate::handover::handover;
@@ -144,6 +145,13 @@ fn compare_feeds(totals: &mut Totals, program: &str) {
     }
 }
 
+fn compare_cases_of_halves(totals: &mut Totals, listing: &str, trial: &str) {
+    for case in cases_of_halves::cases() {
+        totals.feed(listing, &format!("feed of a half {}", case.name()), &case.feed());
+        totals.trial(trial, &format!("trial of a half {}", case.name()), &case.trial());
+    }
+}
+
 fn compare_trials(totals: &mut Totals, program: &str) {
     totals.trial(program, "trial empty", &[]);
     for (place, pair) in pairs::pairs().iter().enumerate() {
@@ -171,6 +179,7 @@ pub fn compare(listing: &str, trial: &str) -> bool {
     let mut totals = Totals::default();
     compare_feeds(&mut totals, listing);
     compare_trials(&mut totals, trial);
+    compare_cases_of_halves(&mut totals, listing, trial);
     let covered = totals.differences > 0 || totals.covered();
     totals.print();
     let handed_over = handover(listing);

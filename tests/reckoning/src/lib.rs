@@ -4,6 +4,7 @@
 pub mod aim;
 pub mod book;
 pub mod calls;
+pub mod cases_of_halves;
 pub mod codec;
 pub mod compare;
 pub mod damage;
