@@ -39,8 +39,11 @@ pub struct Book {
     pub n: usize,
     /// What the book was made with.
     pub making: Making,
-    /// How it reckons A; only wrong versions, which tests try, have another way.
+    /// How it reckons A, the cents that it adds and those that 11 tests; only wrong versions, which
+    /// tests try, have other ways.
     pub retention: Retention,
+    pub added: Cents,
+    pub tested: Cents,
     pub highest: u32,
     /// The periods in the book; the oldest has the lowest number.
     pub periods: BTreeMap<u32, Period>,
@@ -117,11 +120,22 @@ impl Period {
     }
 }
 
-/// Cents that an energy or amount entry adds, and the tier they go to on side 1.
-pub fn cents_and_tier(entry: &Entry) -> (u128, usize) {
+/// Gives the cents of an energy or amount entry.
+pub type Cents = fn(&Entry) -> u128;
+
+/// Cents that an energy or amount entry adds.
+pub fn cents(entry: &Entry) -> u128 {
     match entry.kind {
-        ENERGY => (month::energy_cents(entry.quantity, entry.price), 5),
-        _ => (entry.cents.into(), entry.tier.into()),
+        ENERGY => month::energy_cents(entry.quantity, entry.price),
+        _ => entry.cents.into(),
+    }
+}
+
+/// The tier that an energy or amount entry goes to on side 1.
+pub fn tier(entry: &Entry) -> usize {
+    match entry.kind {
+        ENERGY => 5,
+        _ => entry.tier.into(),
     }
 }
 
@@ -142,7 +156,8 @@ impl Book {
 
     /// The book of a making, without a test of it.
     pub(crate) fn with(making: Making) -> Book {
-        Book { n: making.n as usize, making, retention, highest: 0, periods: BTreeMap::new() }
+        let (n, periods) = (making.n as usize, BTreeMap::new());
+        Book { n, making, retention, added: cents, tested: cents, highest: 0, periods }
     }
 
     /// The cents held in the book.
@@ -192,7 +207,7 @@ impl Book {
         }
         match entry.kind {
             ENERGY | AMOUNT => {
-                let total = period.sums.total(entry.side) + cents_and_tier(entry).0;
+                let total = period.sums.total(entry.side) + (self.tested)(entry);
                 (total > MOST_TOTAL).then_some(TOTAL_PASSES_BOUND)
             }
             NOTICE => (period.sums.total(0) != period.sums.total(1)).then_some(SIDES_UNEQUAL),
@@ -229,8 +244,7 @@ impl Book {
         let participant = usize::from(entry.participant);
         let result = match entry.kind {
             ENERGY | AMOUNT => {
-                let (cents, tier) = cents_and_tier(entry);
-                period.sums.add(participant, entry.side, tier, cents);
+                period.sums.add(participant, entry.side, tier(entry), (self.added)(entry));
                 (nothing, 0)
             }
             NOTICE => {

@@ -1,15 +1,17 @@
 //! Shows that the comparison works: right outputs are damaged, and wrong versions
 //! of the rules are tried, and each must be reported.
 
+use crate::cases_of_halves;
 use crate::demand3;
 use crate::feeds;
 use crate::judge::{judge_listing, judge_trial};
 use crate::listing::listing;
 use crate::pairs;
 use crate::trial;
-use crate::trials;
+use crate::trials::{self, TRIALS};
 use crate::trials_of_groups::{self, Named};
-use crate::versions::{Wrong, WRONG};
+use crate::versions::{self, Wrong};
+use crate::versions_of_halves;
 
 /// Changes the lines of an output; false if there is nothing it could damage.
 type Change = fn(&mut Vec<String>) -> bool;
@@ -223,13 +225,26 @@ fn told(trials: &[Named], wrong: &Wrong) -> Option<String> {
     told.first().map(|first| format!("by {} of {} trials; {first}", told.len(), trials.len()))
 }
 
-/// Tries each wrong version on the trials of groups.
-fn try_versions() -> Report {
-    let mut report = Report::default();
-    let trials: Vec<Named> = trials_of_groups::every_trial().collect();
-    for wrong in &WRONG {
-        report.take(&format!("version: {}", wrong.name), told(&trials, wrong));
+/// The trials that wrong versions of 02, b, are tried on.
+fn trials_with_halves() -> Vec<Named> {
+    let cases = cases_of_halves::cases().into_iter();
+    let cases = cases.map(|case| (format!("trial of a half {}", case.name()), case.trial()));
+    let seeds = (0..TRIALS).map(|seed| (format!("trial seed {seed}"), trials::trial(seed)));
+    cases.chain(seeds).collect()
+}
+
+fn try_versions(report: &mut Report, letter: char, versions: &[Wrong], trials: &[Named]) {
+    for wrong in versions {
+        report.take(&format!("version of {letter}: {}", wrong.name), told(trials, wrong));
     }
+}
+
+/// Tries each wrong version of a request on trials that are made for it.
+fn try_all_versions() -> Report {
+    let mut report = Report::default();
+    let of_groups: Vec<Named> = trials_of_groups::every_trial().collect();
+    try_versions(&mut report, 'a', &versions::WRONG, &of_groups);
+    try_versions(&mut report, 'b', &versions_of_halves::WRONG, &trials_with_halves());
     report
 }
 
@@ -242,7 +257,7 @@ pub fn selftest() -> bool {
     if !(listings && trials) {
         println!("a right output was reported, or a damage was never made");
     }
-    let versions = try_versions();
+    let versions = try_all_versions();
     println!(
         "selftest: {} damages, {} reported; {} wrong versions, {} told",
         report.made, report.reported, versions.made, versions.reported

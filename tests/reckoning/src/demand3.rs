@@ -1,7 +1,7 @@
 //! Demand 3 on a listing that another program printed: the equations are put
 //! over the feed's accepted entries and over the numbers as printed.
 
-use crate::book::cents_and_tier;
+use crate::book::{cents, tier};
 use crate::codec::{self, Entry, Field, AMOUNT, ENERGY, NOTICE, OPEN, RECEIPT, SETTLE};
 use crate::halves::{Half, Halves};
 use crate::lines::{self, Line};
@@ -150,8 +150,7 @@ impl Ledger {
         let participant = usize::from(entry.participant);
         match entry.kind {
             ENERGY | AMOUNT => {
-                let (cents, tier) = cents_and_tier(entry);
-                account.sums.add(participant, entry.side, tier, cents);
+                account.sums.add(participant, entry.side, tier(entry), cents(entry));
             }
             NOTICE => {
                 // A listing's book has groups of one and no reserves.

@@ -35,6 +35,7 @@ pub mod trial;
 pub mod trials;
 pub mod trials_of_groups;
 pub mod versions;
+pub mod versions_of_halves;
 mod wrong;
 
 #[cfg(test)]

@@ -180,7 +180,7 @@ fn refused_book_stands(making: &Making) -> (Book, u8) {
     }
 }
 
-const fn wrong(name: &'static str, make: Make) -> Wrong {
+pub(crate) const fn wrong(name: &'static str, make: Make) -> Wrong {
     Wrong { name, make }
 }
 
