@@ -107,7 +107,8 @@ fn covered(plan: &Plan, reach: &Reach) -> bool {
         && count.settled_months > count.months_with_arrears
         && count.months_with_arrears > 0
         && count.months_left > 0
-        && count.late_receipts > 0;
+        && count.late_receipts > 0
+        && count.halves.both_ways();
     if !enough {
         println!("too little was compared");
     }
@@ -127,6 +128,7 @@ fn print_reach(reach: &Reach) {
         reach.most_periods
     );
     println!("late receipts: {}", count.late_receipts);
+    count.halves.print("the feed");
 }
 
 fn judge_memory(memory: &Memory) -> bool {

@@ -5,6 +5,7 @@ use crate::aim::{Aim, Manner, Scale};
 use crate::book::{Stage, MOST_PERIODS};
 use crate::codec::{Entry, OPEN, RECEIPT, SETTLE};
 use crate::demand3::Count;
+use crate::halves::Half;
 use crate::making::Making;
 use crate::random::Random;
 use crate::refusals::ACCEPTED;
@@ -78,8 +79,12 @@ impl Rotation {
         entry.unwrap_or(Entry::open(0))
     }
 
-    /// An entry that the book refuses.
+    /// An entry that the book refuses. While twelve periods are in it, which is seldom with few
+    /// participants, it is often the opening of one more.
     fn refused(&mut self) -> Option<Entry> {
+        if self.aim.book.periods.len() == MOST_PERIODS && self.aim.random.chance(1, 4) {
+            return Some(self.aim.opening());
+        }
         let n = self.aim.book.n;
         let mut proposed = (0..TRIES).map(|_| {
             let entry = self.aim.wrong_entry();
@@ -206,9 +211,11 @@ impl Rotation {
     fn take(&mut self, entry: &Entry) {
         let before = self.aim.book.periods.get(&entry.period);
         let was_settled = before.is_some_and(|it| matches!(it.stage, Stage::Settled { .. }));
+        let half = before.and_then(|period| Half::of(entry, &period.sums));
         let answer = self.aim.book.apply(entry, &mut vec![0; self.aim.book.n]).number;
         self.reach.entries += 1;
         self.reach.count.answers[usize::from(answer)] += 1;
+        self.reach.count.halves.take(half, answer);
         if answer == ACCEPTED {
             self.count(entry, was_settled);
         }

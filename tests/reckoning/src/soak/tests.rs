@@ -7,7 +7,7 @@ use crate::listing;
 use std::io::{self, BufWriter, Write};
 use std::thread;
 
-const PLAN: Plan = Plan { n: 5, entries: 40_000, months: 160 };
+const PLAN: Plan = Plan { n: 5, entries: 100_000, months: 400 };
 
 struct Unwatched;
 
@@ -90,4 +90,18 @@ fn a_feed_without_refusals_or_late_money_covers_too_little() {
     let mut rotation = Rotation::new(short, SEED);
     assert_eq!(rotation.by_ref().count(), 300);
     assert!(!covered(&short, &rotation.reach));
+}
+
+#[test]
+fn a_feed_without_halves_that_go_both_ways_on_each_side_covers_too_little() {
+    let mut rotation = Rotation::new(PLAN, SEED);
+    rotation.by_ref().for_each(drop);
+    let reach = rotation.reach;
+    assert!(covered(&PLAN, &reach));
+    for side in [0, 1] {
+        let (mut no_down, mut no_up) = (reach.clone(), reach.clone());
+        no_down.count.halves.down[side] = 0;
+        no_up.count.halves.up[side] = 0;
+        assert!(!covered(&PLAN, &no_down) && !covered(&PLAN, &no_up));
+    }
 }
