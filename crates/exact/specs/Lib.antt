@@ -1,3 +1,4 @@
 pub mod Rows
 pub mod Division
 pub mod Energy
+pub mod EnergyExamples

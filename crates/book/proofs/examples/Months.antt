@@ -29,6 +29,7 @@ examples = record {
   month-c = refl;
   month-c-alone = refl;
   month-c-both = refl;
+  month-d = refl;
   empty-month = refl;
   empty-gone = refl;
   answers-65 = refl;

@@ -145,11 +145,14 @@ pub record BookLimits : Type 0 where
   pub equal-sides : of3 (sides 100 99) (Notice 1 ∷ []) ≡ 0 ∷ []
   pub less-owing-to : of3 (sides 100 98) (Notice 1 ∷ []) ≡ 10 ∷ []
   pub more-owing-to : of3 (sides 100 100) (Notice 1 ∷ []) ≡ 10 ∷ []
-  -- 11: each side's total by itself, over all participants and tiers; quantity 100 at price 100 comes to 12 cents
+  -- 11: each side's total by itself, over all participants and tiers; quantity 100 at price 100 comes to 12 cents, and
+  -- at price 300 to 34 (34.5; 02, b)
   pub total-owing-by : of3 (sides 9_999_999_999_999 1) (Amount 1 2 0 0 1 ∷ Amount 1 2 0 0 2 ∷ []) ≡ 0 ∷ 11 ∷ []
   pub energy-owing-by : (of3 (sides 9_999_999_999_988 1) (Energy 1 2 0 100 100 ∷ []) ≡ 0 ∷ []) × (of3 (sides 9_999_999_999_989 1) (Energy 1 2 0 100 100 ∷ []) ≡ 11 ∷ [])
+  pub half-owing-by : (of3 (sides 9_999_999_999_966 1) (Energy 1 2 0 100 300 ∷ []) ≡ 0 ∷ []) × (of3 (sides 9_999_999_999_967 1) (Energy 1 2 0 100 300 ∷ []) ≡ 11 ∷ [])
   pub total-owing-to : of3 (sides 1 9_999_999_999_998) (Amount 1 2 1 3 1 ∷ Amount 1 2 1 3 2 ∷ []) ≡ 0 ∷ 11 ∷ []
   pub energy-owing-to : (of3 (sides 1 9_999_999_999_987) (Energy 1 2 1 100 100 ∷ []) ≡ 0 ∷ []) × (of3 (sides 1 9_999_999_999_988) (Energy 1 2 1 100 100 ∷ []) ≡ 11 ∷ [])
+  pub half-owing-to : (of3 (sides 1 9_999_999_999_965) (Energy 1 2 1 100 300 ∷ []) ≡ 0 ∷ []) × (of3 (sides 1 9_999_999_999_966) (Energy 1 2 1 100 300 ∷ []) ≡ 11 ∷ [])
   pub both-full : of3 (sides 10_000_000_000_000 9_999_999_999_999) (Amount 1 2 0 0 1 ∷ Amount 1 2 1 3 1 ∷ Notice 1 ∷ []) ≡ 11 ∷ 11 ∷ 0 ∷ []
   -- 12: participants are 0 to n − 1
   pub participant-energy : of3 opened (Energy 1 2 0 1 1 ∷ Energy 1 3 0 1 1 ∷ []) ≡ 0 ∷ 12 ∷ []

@@ -1,5 +1,5 @@
--- 01's listing of month A, month B and the other examples without a star (01, Reckoned examples), and a month of related
--- payers (02, a), from `step`; those at a limit stand in `Limits`.
+-- 01's listing of month A, month B and the other examples without a star (01, Reckoned examples), a month of related payers
+-- (02, a) and one of energy with half cents (02, b), from `step`; those at a limit stand in `Limits`.
 use Prim.Native.Nat.{ℕ, _+_}
 use mathlib.Core.Path.{_≡_}
 use mathlib.Core.Bool.{cond}
@@ -102,6 +102,17 @@ noticeC =
 abbrev pub linesC : ℕ → List Entry → List Entry → List Line
 linesC reserve first l = linesFrom (stateAfter (made (related reserve) .state) lent first) lent l
 
+-- energy owing by 0: 34 (34.5), by 2: 12 (11.5), owing to 1: 46. With a half rounded up 35 and 12 are not 46, and the notice is 10
+abbrev pub monthD : List Entry
+monthD =
+    Open 1 ∷ Energy 1 0 0 100 300 ∷ Energy 1 2 0 100 100 ∷ Energy 1 1 1 100 400 ∷ Notice 1 ∷ Receipt 1 0 34 ∷ Receipt 1 2 12 ∷ Settle 1 ∷ []
+
+abbrev pub listingD : List Line
+listingD =
+    quiet 0 ∷ quiet 0 ∷ quiet 0 ∷ quiet 0 ∷ quiet 0 ∷ quiet 34 ∷ quiet 46
+    ∷ paying 46 0 0 (0 ∷ 46 ∷ 0 ∷ 9 ∷ [])
+    ∷ []
+
 -- owing by 0: 100, owing to 1: 100, in each of periods 1 to 3, and 0 has arrears in period 2
 abbrev pub hundred : ℕ → List Entry
 hundred k = Open k ∷ Amount k 0 0 0 100 ∷ Amount k 1 1 5 100 ∷ Notice k ∷ []
@@ -133,6 +144,7 @@ pub record Examples : Type 0 where
   pub month-c-alone : linesFrom (stateAfter (book 4) lent (noticeC ++ (Receipt 1 2 34 ∷ Receipt 1 3 300 ∷ []))) lent (Settle 1 ∷ []) ≡ paying 333 1 0 (0 ∷ 333 ∷ 0 ∷ 0 ∷ []) ∷ []
   -- both related payers do not pay: what 2 leaves unpaid is set off, and a round takes the deficit from 1
   pub month-c-both : linesC 0 (noticeC ++ (Receipt 1 3 300 ∷ [])) (Settle 1 ∷ []) ≡ paying 299 1 1 (0 ∷ 299 ∷ 0 ∷ 0 ∷ []) ∷ []
+  pub month-d : linesFrom (book 3) lent monthD ≡ listingD
   pub empty-month : answersAfter 3 [] (Open 1 ∷ Notice 1 ∷ Settle 1 ∷ []) ≡ 0 ∷ 0 ∷ 0 ∷ []
   pub empty-gone : stateAfter (book 3) lent (Open 1 ∷ Notice 1 ∷ Settle 1 ∷ []) .periods ≡ []
   pub answers-65 : answersAfter 65 [] (Open 1 ∷ Receipt 1 64 0 ∷ []) ≡ 4 ∷ 4 ∷ []
