@@ -17,9 +17,9 @@ use Rattle.settlement.specs.GroupExamples.{GroupExamples}
 pub examples : Examples
 unfolding sum largest table ceilDiv energyCents overTiers gives shortfall othersTier5 retention payable fullClaim unpaid setOff arrears claim share leftFor tierShare met weight loss round run spread available revised scaledAbove scaledBelow deficit spent rounds paid held fill shortage latePayment
 examples = record {
-  energy-up = refl;
+  energy-half-up = refl;
   energy-down = refl;
-  energy-half = refl;
+  energy-half-down = refl;
   energy-none = refl;
   noticeA = (refl, refl);
   settledA = (refl, refl, refl);

@@ -33,9 +33,9 @@ abbrev pub twoRounds : Standing
 twoRounds = spread 2 (at (10 ∷ 10 ∷ [])) (at (2 ∷ 20 ∷ [])) 10
 
 pub record Examples : Type 0 where
-  pub energy-up : energyCents 100 100 ≡ 12
+  pub energy-half-up : energyCents 100 100 ≡ 12
   pub energy-down : energyCents 99 101 ≡ 11
-  pub energy-half : energyCents 100 300 ≡ 34
+  pub energy-half-down : energyCents 100 300 ≡ 34
   pub energy-none : energyCents 0 100 ≡ 0
   pub noticeA : (table (retention monthA) 3 ≡ 0 ∷ 467 ∷ 134 ∷ []) × (table (payable monthA (retention monthA)) 3 ≡ 600 ∷ 0 ∷ 334 ∷ [])
   pub settledA : (table (paid monthA (retention monthA) receivedA) 3 ≡ 0 ∷ 566 ∷ 67 ∷ []) × (held 3 receivedA (paid monthA (retention monthA) receivedA) ≡ 1) × (rounds monthA (retention monthA) receivedA ≡ 0)

@@ -102,7 +102,7 @@ noticeC =
 abbrev pub linesC : ℕ → List Entry → List Entry → List Line
 linesC reserve first l = linesFrom (stateAfter (made (related reserve) .state) lent first) lent l
 
--- energy owing by 0: 34 (34.5), by 2: 12 (11.5), owing to 1: 46. With a half rounded up 35 and 12 are not 46, and the notice is 10
+-- energy owing by 0: 34 (34.5), by 2: 12 (11.5), owing to 1: 46. With a half rounded up the sides are 47 and 46
 abbrev pub monthD : List Entry
 monthD =
     Open 1 ∷ Energy 1 0 0 100 300 ∷ Energy 1 2 0 100 100 ∷ Energy 1 1 1 100 400 ∷ Notice 1 ∷ Receipt 1 0 34 ∷ Receipt 1 2 12 ∷ Settle 1 ∷ []
