@@ -1,13 +1,14 @@
 //! Energy at an exact half of a cent (02, b), next to one and at whole cents. Each is put to a side
 //! that is full but for its cents, for a cent less and for a cent more. Each is a trial and a feed.
 
+use crate::book::MOST_TOTAL;
 use crate::calls;
-use crate::codec::{Entry, MOST_CENTS};
+use crate::codec::Entry;
 use crate::refusals::{ACCEPTED, RECEIPT_ABOVE, TOTAL_PASSES_BOUND};
 
 const N: u8 = 3;
-/// The bound of a side's total.
-const BOUND: u64 = MOST_CENTS;
+/// The bound of a side's total, which is also the most cents of a receipt.
+const BOUND: u64 = MOST_TOTAL as u64;
 
 /// Quantities, prices and the cents that they come to, reckoned by hand.
 const ENERGIES: [(u32, u32, u64); 26] = [
@@ -66,7 +67,7 @@ type Answered = (Entry, u8);
 
 impl Case {
     pub fn name(&self) -> String {
-        format!("{} kWh at {} on side {}", self.quantity, self.price, self.side)
+        format!("of energy, {} kWh at {} on side {}", self.quantity, self.price, self.side)
     }
 
     /// A month whose side has so much room for the energy of participant 1. The rest of it is 0's,
@@ -95,7 +96,7 @@ impl Case {
         month
     }
 
-    /// Each payer sends a cent above what it owes, if a receipt can be as large, and then that.
+    /// Each payer sends a cent above what is payable, if a receipt can be as large, and then that.
     fn receipts(&self, period: u32, added: u64) -> Vec<Answered> {
         let payable = match self.side {
             0 => [BOUND - added, added, 0],

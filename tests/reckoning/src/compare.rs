@@ -147,8 +147,8 @@ fn compare_feeds(totals: &mut Totals, program: &str) {
 
 fn compare_cases_of_halves(totals: &mut Totals, listing: &str, trial: &str) {
     for case in cases_of_halves::cases() {
-        totals.feed(listing, &format!("feed of a half {}", case.name()), &case.feed());
-        totals.trial(trial, &format!("trial of a half {}", case.name()), &case.trial());
+        totals.feed(listing, &format!("feed {}", case.name()), &case.feed());
+        totals.trial(trial, &format!("trial {}", case.name()), &case.trial());
     }
 }
 

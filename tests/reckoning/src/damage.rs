@@ -228,7 +228,7 @@ fn told(trials: &[Named], wrong: &Wrong) -> Option<String> {
 /// The trials that wrong versions of 02, b, are tried on.
 fn trials_with_halves() -> Vec<Named> {
     let cases = cases_of_halves::cases().into_iter();
-    let cases = cases.map(|case| (format!("trial of a half {}", case.name()), case.trial()));
+    let cases = cases.map(|case| (format!("trial {}", case.name()), case.trial()));
     let seeds = (0..TRIALS).map(|seed| (format!("trial seed {seed}"), trials::trial(seed)));
     cases.chain(seeds).collect()
 }

@@ -11,12 +11,11 @@ use crate::random::Random;
 /// A quantity in kWh and a price in cents per MWh.
 pub type Energy = (u32, u32);
 
-/// Some that 10,000 can be divided by, so that both the quantity and the price have a part of it.
+/// Some divisors of 10,000, so that both the quantity and the price have a part of it.
 const DIVISORS: [u32; 8] = [1, 8, 16, 25, 100, 625, 2_000, 10_000];
 
-/// What is left over of products by 20,000 next to a half: the two products next to it, and the two
-/// whose amounts are nearest to it, 1 / 20,000 of a cent away (23 × 3,913 is 89,999 and 23 × 16,087
-/// is 370,001).
+/// Remainders by 20,000 of products next to a half; the amounts of the last two are nearest to it,
+/// 1 / 20,000 of a cent away.
 const NEXT: [u32; 4] = [9_999, 10_001, 3_913, 16_087];
 
 /// Cents of room on a side that tell how a half is rounded: the product 10,000 comes to 12 cents
@@ -69,9 +68,10 @@ fn next_to_half(random: &mut Random, scale: Scale) -> Energy {
     };
     let one = 20_000 * random.between(0, ones) as u32 + 1;
     let next = 20_000 * random.between(0, nexts) as u32 + random.pick(&NEXT);
-    match one <= MOST_PRICE && random.chance(1, 2) {
-        true => (next, one),
-        false => (one, next),
+    if one <= MOST_PRICE && random.chance(1, 2) {
+        (next, one)
+    } else {
+        (one, next)
     }
 }
 

@@ -37,9 +37,18 @@ fn next_to_a_half_the_nearest_is_taken() {
 /// 4.49995 and 18.50005 cents. 99,980,001 × 9,996,087 is 999,608,700,000,000 − 199,911,743,913, so
 /// 999,408,788,256,087, and 1,149,320,106,494.50005 cents.
 #[test]
-fn no_amount_is_nearer_to_a_half() {
+fn the_amounts_nearest_to_a_half_are_no_half() {
     assert_eq!([3_913, 16_087].map(|product| energy_cents(product, 1)), [4, 19]);
     assert_eq!(energy_cents(99_980_001, 9_996_087), 1_149_320_106_495);
+}
+
+/// In 100,000ths of a cent: products that differ by 20,000 have the same fraction.
+#[test]
+fn no_amount_is_nearer_to_a_half() {
+    let from_half = |product: u64| (product * 115 % 100_000).abs_diff(50_000);
+    let near: Vec<u64> = (0..20_000).filter(|&product| from_half(product) <= 5).collect();
+    assert_eq!(near, [3_913, 10_000, 16_087]);
+    assert_eq!([3_913, 10_000, 16_087].map(from_half), [5, 0, 5]);
 }
 
 /// A product of 20,000 is 23 cents, of 40,000 is 46 and of 60,000 is 69.
@@ -54,20 +63,29 @@ fn whole_cents_stay_even_or_odd() {
 /// 99,999,999 × 9,990,000 is 999,000,000,000,000 − 9,990,000, so 998,999,990,010,000. A thousandth
 /// of it is 998,999,990,010 and 15 % of that 149,849,998,501.5: 1,148,849,988,511.5 cents.
 #[test]
-fn the_largest_half_above_an_odd_cent_goes_up() {
+fn a_half_of_the_largest_quantity_that_has_one_goes_up() {
     assert_eq!(energy_cents(99_999_999, 9_990_000), 1_148_849_988_512);
 }
 
 /// 99,999,999 × 9,970,000 is 997,000,000,000,000 − 9,970,000, so 996,999,990,030,000. A thousandth
 /// of it is 996,999,990,030 and 15 % of that 149,549,998,504.5: 1,146,549,988,534.5 cents.
 #[test]
-fn the_largest_half_above_an_even_cent_goes_down() {
+fn a_half_of_the_largest_quantity_that_has_one_goes_down() {
     assert_eq!(energy_cents(99_999_999, 9_970_000), 1_146_549_988_534);
+}
+
+/// 99,999,750 × 9,999,960 is 999,993,500,010,000, and 1,149,992,525,011.5 cents; 99,999,500 ×
+/// 9,999,940 is 999,989,000,030,000, and 1,149,987,350,034.5 cents.
+#[test]
+fn the_largest_products_that_have_a_half() {
+    assert_eq!(energy_cents(99_999_750, 9_999_960), 1_149_992_525_012);
+    assert_eq!(energy_cents(99_999_500, 9_999_940), 1_149_987_350_034);
 }
 
 /// With 10^8 kWh a cent of the price is 115,000 cents; 10^15 of product are 1.15 × 10^12.
 #[test]
 fn the_largest_quantity_has_no_half() {
+    assert!((0..=MOST_PRICE).step_by(7).all(|price| !check(MOST_QUANTITY, price)));
     assert_eq!(energy_cents(MOST_QUANTITY, 1), 115_000);
     assert_eq!(energy_cents(MOST_QUANTITY, 9_990_000), 1_148_850_000_000);
     assert_eq!(energy_cents(MOST_QUANTITY, MOST_PRICE), 1_150_000_000_000);

@@ -151,7 +151,7 @@ mod tests {
             (half, 34, 12),
             (Entry::energy(1, 1, 0, 100, 299), 100, 0),
             (Entry::energy(1, 1, 0, 100, 200), 100, 0),
-            (Entry::energy(1, 1, 2, 100, 300), 100, 3),
+            (Entry::energy(1, 1, 2, 100, 300), 100, 0),
             (Entry::amount(1, 1, 0, 0, 34), 34, 0),
         ] {
             assert_eq!(counted(taken(entry, room, answer)), [], "{entry:?}");
