@@ -104,16 +104,6 @@ module _ (n k : ℕ) {groups numbers f g : ℕ → ℕ} (same : (i : ℕ) → i 
   unfolding outsideSum
   outside-cong = sum-cong _ _ n (λ i h z. cond (eqb (same i h z) k) 0 (cell i h z))
 
--- so group numbers below n and reserves decide retention
-pub retention-cong : (m : Month) (a b : Grouping) → ((i : ℕ) → i < m .n → at (a .groups) i ≡ at (b .groups) i)
-    → ((k : ℕ) → k < groupCount → at (a .reserves) k ≡ at (b .reserves) k) → (i : ℕ) → groupRetention m a i ≡ groupRetention m b i
-unfolding groupRetention groupShortfall outsideTier5
-retention-cong m a b numbers reserves i =
-    largest-cong _ _ groupCount (λ k h z. gives
-    (shortfallWithReserve (group-cong (m .n) k {f = m .by} numbers (λ _ _. refl) z) (group-cong (m .n) k {f = owingTo m} numbers (λ _ _. refl) z) (reserves k h z))
-    (outside-cong (m .n) k {f = tier5 m} numbers (λ _ _. refl) z)
-    (tier5 m i))
-
 -- a group has a member below n, or none
 member : (groups : ℕ → ℕ) (k n : ℕ) → ((p : ℕ) × (p < n) × (groups p ≡ k)) ⊎ ((i : ℕ) → i < n → groups i ≡ k → ⊥)
 member groups k zero = inr (λ i l _. omega arith)
@@ -191,3 +181,13 @@ separate-retention m grouping alone i = omega (
   largest-le (given m grouping alone i) (retention m i) groupCount (most m grouping alone i),
   largest-le (λ p. gives (shortfall m p) (othersTier5 m p) (tier5 m i)) (groupRetention m grouping i) (m .n) (least m grouping alone i),
 )
+
+-- group numbers below n and reserves decide retention
+pub retention-cong : (m : Month) (a b : Grouping) → ((i : ℕ) → i < m .n → at (a .groups) i ≡ at (b .groups) i)
+    → ((k : ℕ) → k < groupCount → at (a .reserves) k ≡ at (b .reserves) k) → (i : ℕ) → groupRetention m a i ≡ groupRetention m b i
+unfolding groupRetention groupShortfall outsideTier5
+retention-cong m a b numbers reserves i =
+    largest-cong _ _ groupCount (λ k h z. gives
+    (shortfallWithReserve (group-cong (m .n) k {f = m .by} numbers (λ _ _. refl) z) (group-cong (m .n) k {f = owingTo m} numbers (λ _ _. refl) z) (reserves k h z))
+    (outside-cong (m .n) k {f = tier5 m} numbers (λ _ _. refl) z)
+    (tier5 m i))
