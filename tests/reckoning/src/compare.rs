@@ -19,7 +19,7 @@ const LEAST_FEEDS: u64 = 500;
 const LEAST_MONTHS: u64 = 20_000;
 const LEAST_CALLS: u64 = 5_000;
 
-#[derive(Default)]
+#[derive(Clone, Default)]
 struct Totals {
     feeds: u64,
     months: u64,
@@ -184,4 +184,52 @@ pub fn compare(listing: &str, trial: &str) -> bool {
     totals.print();
     let handed_over = handover(listing);
     covered && totals.differences == 0 && handed_over
+}
+
+#[cfg(test)]
+mod tests {
+    use super::*;
+    use crate::book::Book;
+    use crate::trial;
+
+    /// Just what a comparison must have covered.
+    fn least() -> Totals {
+        let mut totals = Totals {
+            feeds: LEAST_FEEDS,
+            months: LEAST_MONTHS,
+            calls: LEAST_CALLS,
+            listed: [1; NUMBERS],
+            tried: [1; NUMBERS],
+            ..Totals::default()
+        };
+        // No feed can lend too few payout words.
+        totals.listed[5] = 0;
+        let of_groups = trials_of_groups::every_trial().map(|(_, calls)| calls);
+        for calls in of_groups.chain(cases_of_halves::cases().iter().map(|case| case.trial())) {
+            let seen = trial::lines_by(Book::make, &calls).1;
+            totals.reach.add(&seen.reach);
+            totals.tried_halves.add(&seen.halves);
+        }
+        totals.listed_halves = totals.tried_halves.clone();
+        totals
+    }
+
+    #[test]
+    fn each_part_of_what_must_be_covered_is_asked_for() {
+        let totals = least();
+        assert!(totals.covered());
+        let without = |change: fn(&mut Totals)| {
+            let mut less = totals.clone();
+            change(&mut less);
+            !less.covered()
+        };
+        assert!(without(|less| less.feeds -= 1));
+        assert!(without(|less| less.months -= 1));
+        assert!(without(|less| less.calls -= 1));
+        assert!(without(|less| less.listed[14] = 0));
+        assert!(without(|less| less.tried[5] = 0));
+        assert!(without(|less| less.reach = Reach::default()));
+        assert!(without(|less| less.listed_halves.down_to_bound[1] = 0));
+        assert!(without(|less| less.tried_halves.up_past_bound[0] = 0));
+    }
 }
