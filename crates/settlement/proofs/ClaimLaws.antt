@@ -62,3 +62,13 @@ module _ (m : Month) (retained received : ℕ → ℕ) (sound : Retained m retai
     sum-add (fullClaim m retained) (λ i. received i + arrears m retained received i) (m .n),
     sum-add received (arrears m retained received) (m .n),
   )
+
+-- step 1 goes by i's own receipts
+module _ (m : Month) (retained f g : ℕ → ℕ) (i : ℕ) (e : f i ≡ g i) where
+  pub claim-cong : claim m retained f i ≡ claim m retained g i
+  unfolding claim setOff unpaid
+  claim-cong = rw e
+
+  pub arrears-cong : arrears m retained f i ≡ arrears m retained g i
+  unfolding arrears setOff unpaid
+  arrears-cong = rw e

@@ -8,7 +8,7 @@ pub use Rattle.settlement.proofs.GroupLaws.{group-within, reserve-withi
 -- payable amounts and full claims
 pub use Rattle.settlement.proofs.NoticeLaws.{full-max, full-balance, retained-le-full, full-le, payable-le, full-total}
 -- step 1
-pub use Rattle.settlement.proofs.ClaimLaws.{set-off-le, unpaid-exact, arrears-exact, claim-exact, claim-le, arrears-le, claim-balance, claim-total}
+pub use Rattle.settlement.proofs.ClaimLaws.{set-off-le, unpaid-exact, arrears-exact, claim-exact, claim-le, arrears-le, claim-balance, claim-total, claim-cong, arrears-cong}
 -- steps 2 to 5
 pub use Rattle.settlement.proofs.SettleLaws.{available-exact, tierRest, tier-rest-le, revised-le, revised-total, revised-all, scaled-le-claim, scaled-le-revised}
 pub use Rattle.settlement.proofs.SettleLaws.{paid-le, paid-near, paid-full, rounds-le, rounds-none, held-cases, held-exact, held-le}
