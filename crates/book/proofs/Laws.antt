@@ -21,3 +21,4 @@ pub use Rattle.book.proofs.runs.RunReplies.{reply-n}
 -- examples
 pub use Rattle.book.proofs.examples.Months.{examples}
 pub use Rattle.book.proofs.examples.Limits.{limits}
+pub use Rattle.book.proofs.examples.Purses.{purse-examples}

@@ -5,6 +5,7 @@ pub mod EntryTracks
 pub mod Reckoned
 pub mod Invariant
 pub mod Opening
+pub mod Drawing
 pub mod Naming
 pub mod Histories
 pub mod Demand3

@@ -9,5 +9,8 @@ pub mod MakingLaws
 pub mod WordLaws
 pub mod ChangeLaws
 pub mod SettlementLaws
+pub mod PurseLaws
+pub mod DrawingLaws
 pub mod EntryChanges
 pub mod ValidLaws
+pub mod CentsLaws

@@ -1,6 +1,7 @@
 pub mod Kinds
 pub mod Periods
 pub mod State
+pub mod Purses
 pub mod Makings
 pub mod Step
 pub mod Words

@@ -66,6 +66,7 @@ fn amount_allowed(participant: u8, side: u8, tier: u8, cents: u64) -> bool
     cents_allowed(cents)
 }
 
+// Of a receipt, and of a purse entry.
 fn receipt_allowed(participant: u8, cents: u64) -> bool
     ensures { λ r. ⌜ r ≡ none (receiptOutside participant cents) ⌝ }
 {
@@ -99,6 +100,7 @@ pub fn is_allowed(e: Entry) -> bool
             participant,
             cents,
         } => receipt_allowed(participant, cents),
+        Entry::Purse { participant, cents } => receipt_allowed(participant, cents),
         _ => true,
     }
 }

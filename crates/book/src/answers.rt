@@ -17,6 +17,7 @@ pub enum Answer {
     NotAParticipant,
     TooMuch,
     EarlierArrears,
+    PursePastBound,
 }
 
 pub fn is_accepted(a: Answer) -> bool
@@ -43,5 +44,6 @@ pub fn number(a: Answer) -> u64
         Answer::NotAParticipant => 12,
         Answer::TooMuch => 13,
         Answer::EarlierArrears => 14,
+        Answer::PursePastBound => 15,
     }
 }

@@ -10,11 +10,14 @@ ghost use Rattle.book.specs.inner.Postings.{cleared};
 use crate::Book;
 use crate::answers::number;
 use crate::effects::apply_to_period;
+use crate::kinds::is_settle;
 use crate::lines::LINE;
 use crate::lines::put_line;
 use crate::periods::is_leaving;
 use crate::places::without_period;
 use crate::postings::post_amounts;
+use crate::purses::draw;
+use crate::purses::drawable_purses;
 use crate::steps::is_barred;
 use crate::steps::with_opened;
 use crate::ways::Way;
@@ -62,17 +65,20 @@ pub fn run(first: Book, bytes: &[u8], from: usize, words: &mut [u64], lines: &mu
                 wrote = r.wrote;
             }
             Way::Named { j, entry, next } => {
+                let barred = is_barred(b, entry);
+                // What a settle entry draws is moved into its period first.
+                if is_settle(entry) {
+                    let named = b.periods[j];
+                    let purses = b.purses;
+                    let d = draw(named, purses, drawable_purses(b, named.number), b.n);
+                    let moved = d.period;
+                    let left = d.purses;
+                    b.periods[j] = moved;
+                    b.purses = left;
+                }
                 let p = b.periods[j];
                 let grouping = b.grouping;
-                let r = apply_to_period(
-                    p,
-                    b.n,
-                    grouping,
-                    entry,
-                    is_barred(b, entry),
-                    b.held,
-                    words,
-                );
+                let r = apply_to_period(p, b.n, grouping, entry, barred, b.held, words);
                 let q = r.period;
                 let answer = r.answer;
                 put_line(lines, wrote, number(answer), r.paid, r.held);
@@ -92,6 +98,14 @@ pub fn run(first: Book, bytes: &[u8], from: usize, words: &mut [u64], lines: &mu
             Way::Opens { period, next } => {
                 let left = with_opened(b, period, words);
                 b = left;
+                put_line(lines, wrote, 0, 0, b.held);
+                place = next;
+                wrote += LINE;
+            }
+            Way::Raises { i, cents, next } => {
+                put_cells(words, b.n, [0; PLACES]);
+                b.held = b.held + cents;
+                b.purses[i] = b.purses[i] + cents;
                 put_line(lines, wrote, 0, 0, b.held);
                 place = next;
                 wrote += LINE;

@@ -1,4 +1,4 @@
-// Entries by kind, with the fields of 01 at their widths.
+// Entries by kind, with the fields of 01 and 02 at their widths.
 ghost use mathlib.Core.Path.{_≡_};
 ghost use Rattle.book.specs.layouts.Entries.{kindOf, unknown};
 
@@ -31,6 +31,10 @@ pub enum Entry {
     Settle {
         period: u32,
     },
+    Purse {
+        participant: u8,
+        cents: u64,
+    },
 }
 
 // The numbers of the kinds.
@@ -46,11 +50,13 @@ pub const RECEIPT: usize = 5;
 
 pub const SETTLE: usize = 6;
 
+pub const PURSE: usize = 7;
+
 // One more than the highest kind; there is no kind 0.
-pub const KINDS: usize = 7;
+pub const KINDS: usize = 8;
 
 // The length of a body, by kind.
-pub const BODY_LENGTHS: [usize; KINDS] = [0, 4, 14, 15, 4, 13, 4];
+pub const BODY_LENGTHS: [usize; KINDS] = [0, 4, 14, 15, 4, 13, 4, 9];
 
 // The number of an entry's kind.
 pub fn kind_of(e: Entry) -> usize
@@ -79,6 +85,10 @@ pub fn kind_of(e: Entry) -> usize
             cents: _,
         } => RECEIPT,
         Entry::Settle { period: _ } => SETTLE,
+        Entry::Purse {
+            participant: _,
+            cents: _,
+        } => PURSE,
     }
 }
 

@@ -1,4 +1,4 @@
-// The clearing book: periods and entries.
+// The clearing book: periods, purses and entries.
 use exact::Row;
 use settlement::Grouping;
 use settlement::TierCells;
@@ -17,6 +17,7 @@ mod makings;
 mod periods;
 mod places;
 mod postings;
+mod purses;
 mod reader;
 mod refusals;
 mod steps;
@@ -71,8 +72,8 @@ pub struct Period {
     arrears: Row,
 }
 
-// A book of n participants: their groups and reserves, the highest period ever opened, the cents held, and its periods in
-// the first `count` places, oldest first.
+// A book of n participants: their groups and reserves, the highest period ever opened, the cents held, its periods in the
+// first `count` places, oldest first, and each participant's purse.
 pub struct Book {
     n: usize,
     grouping: Grouping,
@@ -80,4 +81,5 @@ pub struct Book {
     count: usize,
     held: u64,
     periods: [Period; PERIODS],
+    purses: Row,
 }

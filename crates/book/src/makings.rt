@@ -64,7 +64,7 @@ fn making_answer(m: Making) -> Answer
     Answer::Accepted
 }
 
-// A book without periods.
+// A book without periods, its purses empty.
 fn empty_book(n: usize, grouping: Grouping) -> Book
     ensures { λ r. ⌜ r ≡ pack (emptyState n grouping) ⌝ }
 {
@@ -76,6 +76,7 @@ fn empty_book(n: usize, grouping: Grouping) -> Book
         count: 0,
         held: 0,
         periods: [free; PERIODS],
+        purses: [0; PLACES],
     }
 }
 

@@ -4,7 +4,7 @@ ghost use Prim.Native.Nat.{_<_, min};
 ghost use mathlib.Core.List.{[], _∷_};
 ghost use lib.ListN.{length};
 ghost use Rattle.exact.specs.Rows.{places};
-ghost use Rattle.book.specs.rules.State.{view, pack, find, heldIn, earlierArrears, removed, added, centsHeld, mostPeriods};
+ghost use Rattle.book.specs.rules.State.{view, pack, find, heldIn, heldBy, earlierArrears, removed, added, centsHeld, mostPeriods};
 ghost use Rattle.book.specs.rules.Valid.{Valid};
 use crate::Book;
 use crate::PERIODS;
@@ -63,7 +63,7 @@ pub fn with_period(b: Book, p: Period) -> Book
 
 // A period leaves: the later ones move down, and the last place is not in use.
 pub fn without_period(b: Book, j: usize, held: u64) -> Book
-    requires { ⌜ Valid b × (j < length (view b .periods)) × (held ≡ heldIn (b .n) (removed (view b) j .periods)) ⌝ }
+    requires { ⌜ Valid b × (j < length (view b .periods)) × (held ≡ heldBy (removed (view b) j)) ⌝ }
     ensures { λ r. ⌜ r ≡ pack (removed (view b) j) ⌝ }
 {
     let mut ps = b.periods;
@@ -75,6 +75,7 @@ pub fn without_period(b: Book, j: usize, held: u64) -> Book
     let blank = fresh_period(0);
     ps[last] = blank;
     let grouping = b.grouping;
+    let purses = b.purses;
     Book {
         n: b.n,
         grouping: grouping,
@@ -82,5 +83,6 @@ pub fn without_period(b: Book, j: usize, held: u64) -> Book
         count: last,
         held: held,
         periods: ps,
+        purses: purses,
     }
 }

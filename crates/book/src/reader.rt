@@ -69,6 +69,17 @@ fn receipt_at(s: &[u8], body: usize) -> Entry
     }
 }
 
+fn purse_at(s: &[u8], body: usize) -> Entry
+    requires { ⌜ body + 9 ≤ length (now s) ⌝ }
+    ensures { λ r. ⌜ r ≡ entryOf 7 (fieldsAt (layout 7) (now (s .entry)) body) ⌝ }
+{
+    let cents = body + 1;
+    Entry::Purse {
+        participant: byte_at(s, body),
+        cents: long_at(s, cents),
+    }
+}
+
 // The entry of a known kind, of whose body no byte is missing.
 fn body_at(s: &[u8], kind: usize, body: usize) -> Entry
     requires { ⌜ (unknown kind ≡ false) × (body + bodyLength kind ≤ length (now s)) ⌝ }
@@ -84,9 +95,10 @@ fn body_at(s: &[u8], kind: usize, body: usize) -> Entry
             period: word_at(s, body),
         },
         5 => receipt_at(s, body),
-        _ => Entry::Settle {
+        6 => Entry::Settle {
             period: word_at(s, body),
         },
+        _ => purse_at(s, body),
     }
 }
 

@@ -5,7 +5,7 @@ ghost use Prim.Native.Nat.{_≤_, _<_};
 ghost use lib.ListN.{length};
 ghost use Rattle.exact.specs.Rows.{places};
 ghost use Rattle.book.specs.layouts.Allowed.{allowed};
-ghost use Rattle.book.specs.rules.Kinds.{isOpen};
+ghost use Rattle.book.specs.rules.Kinds.{isOpen, isPurse};
 ghost use Rattle.book.specs.rules.Periods.{fresh, zeros};
 ghost use Rattle.book.specs.rules.State.{view, pack, added, mostPeriods};
 ghost use Rattle.book.specs.rules.Refusals.{barring};
@@ -20,13 +20,20 @@ use crate::answers::is_accepted;
 use crate::effects::apply_to_period;
 use crate::entries::Entry;
 use crate::kinds::is_open;
+use crate::kinds::is_purse;
+use crate::kinds::is_settle;
 use crate::kinds::period_of;
+use crate::kinds::purse_cents;
+use crate::kinds::purse_of;
 use crate::periods::fresh_period;
 use crate::periods::is_leaving;
 use crate::places::has_earlier_arrears;
 use crate::places::place;
 use crate::places::with_period;
 use crate::places::without_period;
+use crate::purses::draw;
+use crate::purses::drawable_purses;
+use crate::purses::purse_answer;
 use crate::refusals::opening_answer;
 use exact::PLACES;
 use exact::put_cells;
@@ -91,18 +98,50 @@ fn open_period(b: Book, e: Entry, words: &mut [u64]) -> Applied
     }
 }
 
+// Adds to a purse; 4, 5 and 3 are passed.
+fn raise_purse(mut b: Book, e: Entry, words: &mut [u64]) -> Applied
+    requires { ⌜ Valid b × Entered (view b) (record { entry = e; words = now words }) × (isOpen e ≡ false) × (isPurse e ≡ true) ⌝ }
+    ensures { λ r. ⌜ replied r (now (words .exit)) ≡ reply b (record { entry = e; words = now (words .entry) }) ⌝ }
+{
+    let i = purse_of(e);
+    let cents = purse_cents(e);
+    let answer = purse_answer(b, i, cents);
+    if !is_accepted(answer) {
+        return refused(answer, b);
+    }
+    put_cells(words, b.n, [0; PLACES]);
+    b.held = b.held + cents;
+    b.purses[i] = b.purses[i] + cents;
+    Applied {
+        answer: answer,
+        rounds: 0,
+        book: b,
+    }
+}
+
 // Changes the period that the entry names; 4, 5 and 3 are passed.
 fn change_named(mut b: Book, e: Entry, words: &mut [u64]) -> Applied
-    requires { ⌜ Valid b × Entered (view b) (record { entry = e; words = now words }) × (isOpen e ≡ false) ⌝ }
+    requires { ⌜ Valid b × Entered (view b) (record { entry = e; words = now words }) × (isOpen e ≡ false) × (isPurse e ≡ false) ⌝ }
     ensures { λ r. ⌜ replied r (now (words .exit)) ≡ reply b (record { entry = e; words = now (words .entry) }) ⌝ }
 {
     let j = place(b, period_of(e));
     if b.count <= j {
         return refused(Answer::NotInBook, b);
     }
+    let barred = is_barred(b, e);
+    // What a settle entry draws is moved into its period first.
+    if is_settle(e) {
+        let named = b.periods[j];
+        let purses = b.purses;
+        let d = draw(named, purses, drawable_purses(b, named.number), b.n);
+        let moved = d.period;
+        let left = d.purses;
+        b.periods[j] = moved;
+        b.purses = left;
+    }
     let p = b.periods[j];
     let grouping = b.grouping;
-    let r = apply_to_period(p, b.n, grouping, e, is_barred(b, e), b.held, words);
+    let r = apply_to_period(p, b.n, grouping, e, barred, b.held, words);
     let q = r.period;
     let answer = r.answer;
     if is_leaving(q, b.n) {
@@ -138,6 +177,9 @@ pub fn apply(b: Book, e: Entry, words: &mut [u64]) -> Applied
     }
     if is_open(e) {
         return open_period(b, e, words);
+    }
+    if is_purse(e) {
+        return raise_purse(b, e, words);
     }
     change_named(b, e, words)
 }

@@ -11,18 +11,23 @@ use crate::entries::Entry;
 use crate::feed::read_next;
 use crate::kinds::is_amount;
 use crate::kinds::is_open;
+use crate::kinds::is_purse;
 use crate::kinds::period_of;
+use crate::kinds::purse_cents;
+use crate::kinds::purse_of;
 use crate::places::place;
+use crate::purses::purse_answer;
 use crate::reader::Reading;
 use crate::refusals::opening_answer;
 
 // The way of the entry at a place: energy or an amount of the period at place j of the book, another entry that names the
-// period there, an opening that is accepted, an entry that is refused by what the book shows without a look at a period (4 to
-// 8), or none.
+// period there, an opening or a purse entry that is accepted, an entry that is refused by what the book shows without a look at
+// a period (4 to 8, 12, 15), or none.
 pub enum Way {
     Amounts { j: usize },
     Named { j: usize, entry: Entry, next: usize },
     Opens { period: u32, next: usize },
+    Raises { i: usize, cents: u64, next: usize },
     Refused { answer: Answer, next: usize },
     Unread,
 }
@@ -45,6 +50,15 @@ fn way_of(b: Book, e: Entry, next: usize, room: usize) -> Way
         let answer = opening_answer(b, k);
         if is_accepted(answer) {
             return Way::Opens { period: k, next };
+        }
+        return Way::Refused { answer, next };
+    }
+    if is_purse(e) {
+        let i = purse_of(e);
+        let cents = purse_cents(e);
+        let answer = purse_answer(b, i, cents);
+        if is_accepted(answer) {
+            return Way::Raises { i, cents, next };
         }
         return Way::Refused { answer, next };
     }

@@ -12,7 +12,7 @@ ghost use mathlib.Core.List.{[], _∷_};
 ghost use Rattle.book.specs.layouts.Fields.{bytes, fieldBytes};
 ghost use Rattle.book.specs.layouts.Entries.{bytesOf, size};
 ghost use Rattle.book.specs.layouts.Writing.{writing, written, writeOutcome};
-ghost use Rattle.book.specs.declared.entries.Entry.the-variants.{Energy, Amount, Receipt};
+ghost use Rattle.book.specs.declared.entries.Entry.the-variants.{Energy, Amount, Receipt, Purse};
 
 // How many bytes were written, or why none was.
 pub enum Writing {
@@ -21,7 +21,7 @@ pub enum Writing {
     NoRoom,
 }
 
-// The kind and the period, which every kind so far begins with.
+// The kind and the period, which every kind but the purse entry begins with.
 fn put_head(out: &mut [u8], kind: u8, period: u32)
     requires { ⌜ 5 ≤ length (now out) ⌝ }
     ensures { λ _. ⌜ now (out .exit) ≡ sets (now (out .entry)) 0 (kind ∷ bytes 4 period) ⌝ }
@@ -95,6 +95,15 @@ fn put_receipt(out: &mut [u8], period: u32, participant: u8, cents: u64)
     put(out, 6, 8, cents);
 }
 
+fn put_purse(out: &mut [u8], participant: u8, cents: u64)
+    requires { ⌜ 10 ≤ length (now out) ⌝ }
+    ensures { λ _. ⌜ now (out .exit) ≡ sets (now (out .entry)) 0 (bytesOf (Purse participant cents)) ⌝ }
+{
+    out[0] = 7;
+    put(out, 1, 1, participant as u64);
+    put(out, 2, 8, cents);
+}
+
 // The bytes of an entry, for which there is room.
 fn put_entry(e: Entry, out: &mut [u8])
     requires { ⌜ size e ≤ length (now out) ⌝ }
@@ -123,6 +132,7 @@ fn put_entry(e: Entry, out: &mut [u8])
             cents,
         } => put_receipt(out, period, participant, cents),
         Entry::Settle { period } => put_head(out, 6, period),
+        Entry::Purse { participant, cents } => put_purse(out, participant, cents),
     }
 }
 

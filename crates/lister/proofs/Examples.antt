@@ -1,10 +1,11 @@
 -- 01's listing and the ends of an input come out of the definition by computation.
 use mathlib.Core.Path.{refl}
 use Rattle.book.specs.rules.Periods.{zeros, fresh, raised, sideTotal, holds, leaves, amounted, withNotice, withReceipt, withSettlement, latePays, withLateReceipt, changed}
-use Rattle.book.specs.rules.State.{pack, heldIn, find, arrearsBefore, earlierArrears, replaced, removed, added}
+use Rattle.book.specs.rules.State.{pack, heldIn, heldBy, find, arrearsBefore, earlierArrears, replaced, removed, added}
+use Rattle.book.specs.rules.Purses.{drawnFrom, withDrawn, pursesLeft, periodsAfter, pursesAfter}
 use Rattle.book.specs.rules.Makings.{made}
 use Rattle.book.specs.rules.Refusals.{receivable}
-use Rattle.book.specs.rules.Step.{stored, payoutWords, accepted, step, reply, paidBy}
+use Rattle.book.specs.rules.Step.{stored, payoutWords, acted, accepted, step, reply, paidBy}
 use Rattle.exact.specs.Rows.{sum, largest, table, filled, cells}
 use Rattle.exact.specs.Division.{ceilDiv}
 use Rattle.exact.specs.Energy.{energyCents}
@@ -25,7 +26,7 @@ use Rattle.lister.specs.Listing.{entryLines, endLine, entriesFrom, listi
 use Rattle.lister.specs.Examples.{Examples}
 
 pub examples : Examples
-unfolding listing listingFrom entriesFrom entryLines endLine entryLine payLine payLines digitsOf decimal entryOf valueAt fieldsAt reading entryAt paidBy reply pack zeros fresh raised sideTotal holds leaves amounted withNotice withReceipt withSettlement latePays withLateReceipt changed heldIn made find arrearsBefore earlierArrears replaced removed added receivable stored payoutWords accepted step sum largest table filled cells ceilDiv energyCents overTiers gives groupingAllowed groupSum outsideSum shortfallWithReserve groupShortfall outsideTier5 groupRetention payable fullClaim unpaid setOff arrears claim share leftFor tierShare met weight loss round run spread available revised scaledAbove scaledBelow deficit spent rounds paid held fill shortage latePayment
+unfolding listing listingFrom entriesFrom entryLines endLine entryLine payLine payLines digitsOf decimal entryOf valueAt fieldsAt reading entryAt paidBy reply pack zeros fresh raised sideTotal holds leaves amounted withNotice withReceipt withSettlement latePays withLateReceipt changed heldIn heldBy drawnFrom withDrawn pursesLeft periodsAfter pursesAfter made find arrearsBefore earlierArrears replaced removed added receivable stored payoutWords acted accepted step sum largest table filled cells ceilDiv energyCents overTiers gives groupingAllowed groupSum outsideSum shortfallWithReserve groupShortfall outsideTier5 groupRetention payable fullClaim unpaid setOff arrears claim share leftFor tierShare met weight loss round run spread available revised scaledAbove scaledBelow deficit spent rounds paid held fill shortage latePayment
 examples = record {
   month-a = refl;
   empty = refl;

@@ -28,7 +28,7 @@ const ENTRY_LENGTH: usize = 26;
 pub const READ_LENGTH: usize = 11;
 
 // The highest kind of an entry; there is no kind 0.
-const LAST_KIND: u8 = 6;
+const LAST_KIND: u8 = 7;
 
 // What stands at the start of the bytes: a whole call, of READ with how many bytes are to be read; the start of one; or
 // no call.
@@ -158,7 +158,11 @@ pub fn entry_of(f: Fields) -> Entry {
             participant: f.participant,
             cents: f.cents,
         },
-        _ => Entry::Settle { period: f.period },
+        6 => Entry::Settle { period: f.period },
+        _ => Entry::Purse {
+            participant: f.participant,
+            cents: f.cents,
+        },
     }
 }
 

@@ -70,6 +70,11 @@ pub fn layout_of(e: Entry) -> Layout
             fields: [period as u64, participant as u64, cents, 0, 0],
         },
         Entry::Settle { period } => period_alone(6, period),
+        Entry::Purse { participant, cents } => Layout {
+            kind: 7,
+            count: 2,
+            fields: [participant as u64, cents, 0, 0, 0],
+        },
     }
 }
 

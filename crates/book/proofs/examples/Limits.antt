@@ -7,10 +7,11 @@ use Rattle.book.specs.layouts.Entries.{entryOf, bytesOf}
 use Rattle.book.specs.layouts.Reading.{entryAt, reading}
 use Rattle.book.specs.layouts.Writing.{writing, written}
 use Rattle.book.specs.rules.Periods.{zeros, fresh, raised, sideTotal, holds, leaves, amounted, withNotice, withReceipt, withSettlement, latePays, withLateReceipt, changed}
-use Rattle.book.specs.rules.State.{heldIn, find, arrearsBefore, earlierArrears, replaced, removed, added}
+use Rattle.book.specs.rules.State.{heldIn, heldBy, find, arrearsBefore, earlierArrears, replaced, removed, added}
+use Rattle.book.specs.rules.Purses.{drawnFrom, withDrawn, pursesLeft, periodsAfter, pursesAfter}
 use Rattle.book.specs.rules.Makings.{made}
 use Rattle.book.specs.rules.Refusals.{receivable}
-use Rattle.book.specs.rules.Step.{stored, payoutWords, accepted, step}
+use Rattle.book.specs.rules.Step.{stored, payoutWords, acted, accepted, step}
 use Rattle.exact.specs.Rows.{sum, largest, table, filled, cells}
 use Rattle.exact.specs.Division.{ceilDiv}
 use Rattle.exact.specs.Energy.{energyCents}
@@ -24,7 +25,7 @@ use Rattle.settlement.specs.Settling.{available, revised, scaledAbove, scaledBe
 use Rattle.settlement.specs.Late.{fill, shortage, latePayment}
 
 field-limits : FieldLimits
-unfolding stateAfter zeros fresh raised sideTotal leaves amounted withNotice withReceipt changed made find arrearsBefore earlierArrears replaced added receivable stored payoutWords accepted step sum largest table filled cells ceilDiv energyCents overTiers gives groupingAllowed groupSum outsideSum shortfallWithReserve groupShortfall outsideTier5 groupRetention payable fullClaim
+unfolding stateAfter zeros fresh raised sideTotal leaves amounted withNotice withReceipt changed periodsAfter pursesAfter made find arrearsBefore earlierArrears replaced added receivable stored payoutWords acted accepted step sum largest table filled cells ceilDiv energyCents overTiers gives groupingAllowed groupSum outsideSum shortfallWithReserve groupShortfall outsideTier5 groupRetention payable fullClaim
 field-limits = record {
   participant-energy = refl;
   participant-amount = refl;
@@ -42,6 +43,9 @@ field-limits = record {
   most-cents-amount = refl;
   least-cents-receipt = refl;
   most-cents-receipt = refl;
+  participant-purse = refl;
+  least-cents-purse = refl;
+  most-cents-purse = refl;
 }
 
 byte-limits : ByteLimits
@@ -53,6 +57,7 @@ byte-limits = record {
   notice = record { read = refl; read-short = refl; wrote = refl; wrote-bytes = refl; no-room = refl; no-room-bytes = refl };
   receipt = record { read = refl; read-short = refl; wrote = refl; wrote-bytes = refl; no-room = refl; no-room-bytes = refl };
   settle = record { read = refl; read-short = refl; wrote = refl; wrote-bytes = refl; no-room = refl; no-room-bytes = refl };
+  purse = record { read = refl; read-short = refl; wrote = refl; wrote-bytes = refl; no-room = refl; no-room-bytes = refl };
   no-byte = refl;
   last-place = refl;
   at-end = refl;
@@ -65,7 +70,7 @@ byte-limits = record {
 }
 
 book-limits : BookLimits
-unfolding stateAfter zeros fresh raised sideTotal holds leaves amounted withNotice withReceipt withSettlement latePays withLateReceipt changed heldIn made find arrearsBefore earlierArrears replaced removed added receivable stored payoutWords accepted step sum largest table filled cells ceilDiv energyCents overTiers gives groupingAllowed groupSum outsideSum shortfallWithReserve groupShortfall outsideTier5 groupRetention payable fullClaim unpaid setOff arrears claim share leftFor tierShare met weight loss round run spread available revised scaledAbove scaledBelow deficit spent rounds paid held fill shortage latePayment
+unfolding stateAfter zeros fresh raised sideTotal holds leaves amounted withNotice withReceipt withSettlement latePays withLateReceipt changed heldIn heldBy drawnFrom withDrawn pursesLeft periodsAfter pursesAfter made find arrearsBefore earlierArrears replaced removed added receivable stored payoutWords acted accepted step sum largest table filled cells ceilDiv energyCents overTiers gives groupingAllowed groupSum outsideSum shortfallWithReserve groupShortfall outsideTier5 groupRetention payable fullClaim unpaid setOff arrears claim share leftFor tierShare met weight loss round run spread available revised scaledAbove scaledBelow deficit spent rounds paid held fill shortage latePayment
 book-limits = record {
   least-n = (refl, refl);
   most-n = (refl, refl);
@@ -101,12 +106,16 @@ book-limits = record {
   participant-energy = refl;
   participant-amount = refl;
   participant-receipt = refl;
+  participant-purse = refl;
   payable = refl;
   payable-left = refl;
   arrears = refl;
   arrears-left = refl;
   nothing-payable = refl;
   earlier-arrears = (refl, refl);
+  full-purse = refl;
+  past-purse = refl;
+  drawn-purse = refl;
 }
 
 pub limits : Limits

@@ -2,10 +2,11 @@
 use mathlib.Core.Path.{refl}
 use Rattle.book.specs.examples.Months.{Examples, linesFrom, stateAfter}
 use Rattle.book.specs.rules.Periods.{zeros, fresh, raised, sideTotal, holds, leaves, amounted, withNotice, withReceipt, withSettlement, latePays, withLateReceipt, changed}
-use Rattle.book.specs.rules.State.{heldIn, find, arrearsBefore, earlierArrears, replaced, removed, added}
+use Rattle.book.specs.rules.State.{heldIn, heldBy, find, arrearsBefore, earlierArrears, replaced, removed, added}
+use Rattle.book.specs.rules.Purses.{drawnFrom, withDrawn, pursesLeft, periodsAfter, pursesAfter}
 use Rattle.book.specs.rules.Makings.{made}
 use Rattle.book.specs.rules.Refusals.{receivable}
-use Rattle.book.specs.rules.Step.{stored, payoutWords, accepted, step}
+use Rattle.book.specs.rules.Step.{stored, payoutWords, acted, accepted, step}
 use Rattle.exact.specs.Rows.{sum, largest, table, filled, cells}
 use Rattle.exact.specs.Division.{ceilDiv}
 use Rattle.exact.specs.Energy.{energyCents}
@@ -19,7 +20,7 @@ use Rattle.settlement.specs.Settling.{available, revised, scaledAbove, scaledBe
 use Rattle.settlement.specs.Late.{fill, shortage, latePayment}
 
 pub examples : Examples
-unfolding linesFrom stateAfter zeros fresh raised sideTotal holds leaves amounted withNotice withReceipt withSettlement latePays withLateReceipt changed heldIn made find arrearsBefore earlierArrears replaced removed added receivable stored payoutWords accepted step sum largest table filled cells ceilDiv energyCents overTiers gives groupingAllowed groupSum outsideSum shortfallWithReserve groupShortfall outsideTier5 groupRetention payable fullClaim unpaid setOff arrears claim share leftFor tierShare met weight loss round run spread available revised scaledAbove scaledBelow deficit spent rounds paid held fill shortage latePayment
+unfolding linesFrom stateAfter zeros fresh raised sideTotal holds leaves amounted withNotice withReceipt withSettlement latePays withLateReceipt changed heldIn heldBy drawnFrom withDrawn pursesLeft periodsAfter pursesAfter made find arrearsBefore earlierArrears replaced removed added receivable stored payoutWords acted accepted step sum largest table filled cells ceilDiv energyCents overTiers gives groupingAllowed groupSum outsideSum shortfallWithReserve groupShortfall outsideTier5 groupRetention payable fullClaim unpaid setOff arrears claim share leftFor tierShare met weight loss round run spread available revised scaledAbove scaledBelow deficit spent rounds paid held fill shortage latePayment
 examples = record {
   month-a = refl;
   gone-a = refl;

@@ -1,4 +1,5 @@
--- Every accepted entry leaves its period with what the log then comes to, and every late receipt meets tiers in order.
+-- Every accepted entry that names a period leaves it with what the log then comes to, and every late receipt meets tiers in
+-- order.
 use Prim.Native.Nat.{ℕ, _<_}
 use mathlib.Core.Path.{_≡_, refl, sym, subst}
 use mathlib.Core.Bool.{Bool, true, false, true≢false}
@@ -11,14 +12,14 @@ use Rattle.settlement.specs.declared.groups.Grouping.{Grouping}
 use Rattle.book.specs.Checks.{refusal}
 use Rattle.book.specs.layouts.Entries.{kindOf, entryOf, field}
 use Rattle.book.specs.layouts.Allowed.{allowed}
-use Rattle.book.specs.rules.Kinds.{isOpen, isAmount, isReceipt, addition}
+use Rattle.book.specs.rules.Kinds.{isOpen, isPurse, isAmount, isReceipt, addition}
 use Rattle.book.specs.rules.Periods.{zeros, Change, withAddition, changed}
 use Rattle.book.specs.rules.Refusals.{amountChecks, periodChecks}
 use Rattle.book.specs.rules.Valid.{Sound, InBook}
 use Rattle.book.specs.history.Log.{Account, retention}
 use Rattle.book.specs.history.Demand3.{TiersInOrder}
 use Rattle.book.specs.declared.entries.Entry.{Entry}
-use Rattle.book.specs.declared.entries.Entry.the-variants.{Open, Energy, Amount, Notice, Receipt, Settle}
+use Rattle.book.specs.declared.entries.Entry.the-variants.{Open, Energy, Amount, Notice, Receipt, Settle, Purse}
 use Rattle.book.specs.declared.Period.{Period}
 use Rattle.book.proofs.layouts.EntryLaws.{of-kind}
 use Rattle.book.proofs.rules.Passing.{amount-passes, notice-passes, receipt-passes, settle-passes}
@@ -39,14 +40,14 @@ module _ (n : ℕ) {grouping : Grouping} (p : Period) (b : InBook n grouping p) 
       track-amount n p s a t words w e (d .participant) (d .cents) (d .side) (d .tier) (amount-within e q l .placed) (amount-passes n p d z)
       (record { by = λ j. rw q; to = λ u j. rw q; no-receipt = λ j. rw (o .not-receipt); no-settle = o .not-settle })
 
-  pub entry-tracks : (e : Entry) (barred : Bool) → isOpen e ≡ false → allowed e ≡ true → refusal (periodChecks n barred e p) ≡ 0
+  pub entry-tracks : (e : Entry) (barred : Bool) → isOpen e ≡ false → isPurse e ≡ false → allowed e ≡ true → refusal (periodChecks n barred e p) ≡ 0
       → Paid n (changed n grouping e p .pays) words → Tracks n grouping (changed n grouping e p .period) (with-entry e words a)
   unfolding changed
-  entry-tracks (Open k) barred o l e w = absurd (true≢false o)
-  entry-tracks (Energy k i side quantity price) barred o l e w = adds (Energy k i side quantity price) refl l e w
-  entry-tracks (Amount k i side tier cents) barred o l e w = adds (Amount k i side tier cents) refl l e w
-  entry-tracks (Notice k) barred o l e w = track-notice n p s a t words w k (notice-passes n p e .stage)
-  entry-tracks (Receipt k i cents) barred o l e w =
+  entry-tracks (Open k) barred o u l e w = absurd (true≢false o)
+  entry-tracks (Energy k i side quantity price) barred o u l e w = adds (Energy k i side quantity price) refl l e w
+  entry-tracks (Amount k i side tier cents) barred o u l e w = adds (Amount k i side tier cents) refl l e w
+  entry-tracks (Notice k) barred o u l e w = track-notice n p s a t words w k (notice-passes n p e .stage)
+  entry-tracks (Receipt k i cents) barred o u l e w =
       let f = receipt-passes n p barred i cents e in
       ⊎-elim
       (λ q. subst (λ (c : Change). Tracks n grouping (c .period) (with-entry (Receipt k i cents) words a)) (sym (changed-receipt n grouping p k i cents q))
@@ -54,7 +55,8 @@ module _ (n : ℕ) {grouping : Grouping} (p : Period) (b : InBook n grouping p) 
       (λ q. subst (λ (c : Change). Tracks n grouping (c .period) (with-entry (Receipt k i cents) words a)) (sym (changed-late n grouping p k i cents q))
       (track-late n p s a t words k i cents q f (subst (λ (c : Change). Paid n (c .pays) words) (changed-late n grouping p k i cents q) w)))
       (f .stage)
-  entry-tracks (Settle k) barred o l e w = track-settle n p s a t words b k (settle-passes p e) w
+  entry-tracks (Settle k) barred o u l e w = track-settle n p s a t words b k (settle-passes p e) w
+  entry-tracks (Purse i cents) barred o u l e w = absurd (true≢false u)
 
   receipt-in-order : (k i cents : ℕ) (barred : Bool) → 0 < a .settlements → refusal (periodChecks n barred (Receipt k i cents) p) ≡ 0
       → Paid n (changed n grouping (Receipt k i cents) p .pays) words → TiersInOrder n (retention n grouping) a (with-entry (Receipt k i cents) words a)

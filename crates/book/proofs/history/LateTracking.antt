@@ -5,14 +5,14 @@ use mathlib.Core.List.{List}
 use native.Mathlib.Omega.{arith}
 use lib.ListN.{set}
 use Rattle.exact.specs.Rows.{at, cells}
-use Rattle.exact.proofs.RowLaws.{cells-at}
+use Rattle.exact.proofs.RowLaws.{cells-at, cells-cong}
 use Rattle.settlement.specs.Month.{Month, tierAt}
 use Rattle.settlement.specs.Notice.{payable}
 use Rattle.settlement.specs.Groups.{groupRetention}
 use Rattle.settlement.specs.Claims.{claim, arrears}
 use Rattle.settlement.specs.Settling.{paid}
 use Rattle.settlement.specs.Late.{fill, tiersOf, shortage}
-use Rattle.settlement.proofs.Laws.{shortage-cong}
+use Rattle.settlement.proofs.Laws.{claim-cong, arrears-cong, shortage-cong}
 use Rattle.settlement.specs.declared.groups.Grouping.{Grouping}
 use Rattle.book.specs.rules.Periods.{monthOf, withReceipt, withSettlement, latePays, withLateReceipt}
 use Rattle.book.specs.rules.Valid.{Sound, InBook, AtStage, BeforeSettlement}
@@ -47,26 +47,26 @@ module _ (n : ℕ) {grouping : Grouping} (p : Period) (s : Sound n p) (a : Accou
     u : Unsettled a
     u = subst (Staged n grouping p a) q (t .staged)
 
-    before-all : at (p .received) ≡ after .before
-    before-all = fun-ext (λ i. omega (arith, t .received i, u .none-late i, before-unsettled n x a i (u .unsettled)))
+    before-same : (i : ℕ) → i < n → at (p .received) i ≡ after .before i
+    before-same i h = omega (arith, t .received i h, u .none-late i, before-unsettled n x a i (u .unsettled))
 
     pub track-settle : Tracks n grouping (withSettlement n (groupRetention (monthOf n p) grouping) p .period) (with-entry (Settle k) words a)
     unfolding withSettlement entered
     track-settle = record {
       month = t .month ∙ month-still n x a (λ i. refl) (λ t i. refl);
-      received = λ i. omega (arith, t .received i, received-grows n x a i);
+      received = λ i h. omega (arith, t .received i h, received-grows n x a i);
       paid = λ i h. omega (arith, w i h, t .paid i h, f .nothing-paid i h);
       staged = record {
         settled = omega (arith, u .unsettled);
-        claims = ap (λ g. cells (claim m A g) n) before-all;
+        claims = cells-cong (claim m A (at (p .received))) (claim m A (after .before)) n (λ i h. claim-cong m A (at (p .received)) (after .before) i (before-same i h));
         arrears = λ i h. omega (
           arith,
           cells-at (arrears m A (at (p .received))) n i h,
-          ap (λ g. arrears m A g i) before-all,
+          arrears-cong m A (at (p .received)) (after .before) i (before-same i h),
           late-unsettled n x a i (u .unsettled),
           u .none-late i,
         );
-        within = λ i h. subst (λ g. g i ≤ payable m A i) before-all (within-payable n p s q (due-in-book n p b q) i h);
+        within = λ i h. omega (arith, before-same i h, within-payable n p s q (due-in-book n p b q) i h);
       };
     }
       where
@@ -84,8 +84,8 @@ module _ (n : ℕ) {grouping : Grouping} (p : Period) (s : Sound n p) (a : Accou
     since : Since n grouping p a
     since = subst (Staged n grouping p a) q (t .staged)
 
-    before-same : a .before ≡ d .before
-    before-same = fun-ext (λ j. sym (before-settled n y a j (omega (arith, since .settled))))
+    before-still : a .before ≡ d .before
+    before-still = fun-ext (λ j. sym (before-settled n y a j (omega (arith, since .settled))))
 
     arrears-now : (j : ℕ) → j < n
         → at (set (p .arrears) i (at (p .arrears) i - cents)) j + d .late j ≡ arrears (monthOf n p) (groupRetention (monthOf n p) grouping) (d .before) j
@@ -94,7 +94,7 @@ module _ (n : ℕ) {grouping : Grouping} (p : Period) (s : Sound n p) (a : Accou
       since .arrears j h,
       lowered-at (p .arrears) i cents (omega (arith, s .arrears-size, s .bounded .few, f .member)) (fits-arrears n p s q i cents f) j,
       late-settled n y a j (omega (arith, since .settled)),
-      ap (λ g. arrears (monthOf n p) (groupRetention (monthOf n p) grouping) g j) before-same,
+      ap (λ g. arrears (monthOf n p) (groupRetention (monthOf n p) grouping) g j) before-still,
     )
 
     paid-now : (j : ℕ) → j < n → at (withLateReceipt n p i cents .period .paid) j ≡ d .paid j
@@ -114,18 +114,18 @@ module _ (n : ℕ) {grouping : Grouping} (p : Period) (s : Sound n p) (a : Accou
     unfolding withLateReceipt
     track-late = record {
       month = t .month ∙ month-still n y a (λ i. refl) (λ t i. refl);
-      received = λ j. omega (
+      received = λ j h. omega (
         arith,
-        t .received j,
+        t .received j h,
         raised-at (p .received) i cents (omega (arith, s .received-size, s .bounded .few, f .member)) j,
         received-grows n y a j,
       );
       paid = paid-now;
       staged = subst (Staged n grouping (withLateReceipt n p i cents .period) d) (sym q) (record {
         settled = settled-now;
-        claims = since .claims ∙ ap (λ g. cells (claim (monthOf n p) (groupRetention (monthOf n p) grouping) g) n) before-same;
+        claims = since .claims ∙ ap (λ g. cells (claim (monthOf n p) (groupRetention (monthOf n p) grouping) g) n) before-still;
         arrears = arrears-now;
-        within = λ j h. subst (λ g. g j ≤ payable (monthOf n p) (groupRetention (monthOf n p) grouping) j) before-same (since .within j h);
+        within = λ j h. subst (λ g. g j ≤ payable (monthOf n p) (groupRetention (monthOf n p) grouping) j) before-still (since .within j h);
       });
     }
 

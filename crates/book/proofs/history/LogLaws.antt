@@ -1,23 +1,47 @@
--- Laws of accounts: an entry enters the account of the period that it names, and no other.
-use Prim.Native.Nat.{ℕ, _+_, _<_}
-use mathlib.Core.Path.{_≡_}
-use mathlib.Core.Bool.{cond}
-use mathlib.Core.List.{_∷_}
+-- Laws of accounts and purses: an entry enters the account of the period that it names, and no other.
+use Prim.Native.Nat.{ℕ, _+_, _-_, _<_}
+use mathlib.Core.Path.{_≡_, refl, sym}
+use mathlib.Core.Bool.{true, false, cond}
 use native.Mathlib.Omega.{arith}
 use borrow.Author.Tests.{eq-eqb, ne-eqb}
 use lib.Dec.{eqb}
-use Rattle.exact.proofs.Cases.{cases-eq}
-use Rattle.book.specs.rules.Kinds.{periodOf}
-use Rattle.book.specs.history.Log.{Accepted, Log, Account, entered, account, addsBy, addsTo, receivedFrom, monthIn}
+use Rattle.exact.proofs.Cases.{cases, cases-eq}
+use Rattle.book.specs.rules.Kinds.{isPurse, periodOf, names, purseOf, purseCents}
+use Rattle.book.specs.history.Log.{Accepted, Account, Ledger, entered, movedIn, withEntry, draws, withDraws, addsBy, addsTo, receivedFrom, monthIn}
+use Rattle.book.proofs.rules.KindLaws.{names-same}
 
-module _ (k : ℕ) (x : Accepted) (log : Log) where
-  pub account-same : periodOf (x .entry) ≡ k → account k (x ∷ log) ≡ entered x (account k log)
-  unfolding account
-  account-same q = rw (eq-eqb (periodOf (x .entry)) k q)
+module _ (k : ℕ) (x : Accepted) (g : Ledger) where
+  pub account-same : isPurse (x .entry) ≡ false → periodOf (x .entry) ≡ k → withEntry x g .account k ≡ entered x (g .account k)
+  unfolding withEntry
+  account-same u q = rw (names-same k (x .entry) u q)
 
-  pub account-other : (periodOf (x .entry) ≡ k → ⊥) → account k (x ∷ log) ≡ account k log
-  unfolding account
-  account-other q = rw (ne-eqb (periodOf (x .entry)) k q)
+  pub account-other : (names k (x .entry) ≡ true → ⊥) → withEntry x g .account k ≡ g .account k
+  unfolding withEntry
+  account-other ne = cases (λ (a : Account). a ≡ g .account k) (names k (x .entry)) (λ q. absurd (ne q)) (λ _. refl)
+
+-- a purse grows by the entries that add to it
+module _ (i : ℕ) (x : Accepted) (g : Ledger) where
+  pub purse-same : isPurse (x .entry) ≡ false → withEntry x g .purse i ≡ g .purse i
+  unfolding withEntry
+  purse-same u = rw u (omega arith)
+
+  pub purse-grows : isPurse (x .entry) ≡ true → withEntry x g .purse i ≡ cond (eqb (purseOf (x .entry)) i) (purseCents (x .entry)) 0 + g .purse i
+  unfolding withEntry
+  purse-grows u = rw u
+
+pub moved-openings : (drawn : ℕ → ℕ) (a : Account) → movedIn drawn a .openings ≡ a .openings
+unfolding movedIn
+moved-openings drawn a = refl
+
+-- what a settle entry draws enters its period, and no other
+module _ (n : ℕ) (retained : Account → ℕ → ℕ) (k : ℕ) (g : Ledger) where
+  pub moved-own : withDraws n retained k g .account k ≡ movedIn (draws n retained g k) (g .account k)
+  unfolding withDraws
+  moved-own = rw (eq-eqb k k refl)
+
+  pub moved-other : (j : ℕ) → (k ≡ j → ⊥) → withDraws n retained k g .account j ≡ g .account j
+  unfolding withDraws
+  moved-other j ne = rw (ne-eqb j k (λ q. ne (sym q)))
 
 module _ (n : ℕ) (x : Accepted) (a : Account) where
   -- an entry without an amount leaves the month

@@ -23,7 +23,7 @@ module _ (n : ℕ) {grouping : Grouping} (p : Period) (a : Account) (t : Tracks 
   to-is = ap (λ (m : Month). m .to) (t .month)
 
   pub received-total : sum (at (p .received)) n ≡ sum (received n a) n
-  received-total = sum-cong (at (p .received)) (received n a) n (λ i _. t .received i)
+  received-total = sum-cong (at (p .received)) (received n a) n (t .received)
 
   pub paid-total : sum (at (p .paid)) n ≡ sum (a .paid) n
   paid-total = sum-cong (at (p .paid)) (a .paid) n (t .paid)

@@ -1,4 +1,5 @@
--- A period in the book has what its entries in the log come to: amounts, notices and receipts before settlement.
+-- A period in the book has what its entries in the log, and what was drawn into it, come to: amounts, notices, receipts before
+-- settlement and cents drawn.
 use Prim.Native.Nat.{ℕ, zero, suc, _+_, _-_, _*_, _≤_, _<_}
 use mathlib.Core.Path.{_≡_, refl, sym, ap, subst, _∙_}
 use mathlib.Core.Bool.{false, cond}
@@ -7,7 +8,7 @@ use mathlib.Core.Logic.{inl, inr}
 use native.Mathlib.Omega.{arith}
 use lib.Dec.{eqb, eqb·suc-suc}
 use Rattle.exact.specs.Rows.{places, at, cells}
-use Rattle.exact.proofs.RowLaws.{filled-at}
+use Rattle.exact.proofs.RowLaws.{cells-at}
 use Rattle.settlement.specs.Month.{Month, tiers, tierAt}
 use Rattle.settlement.specs.Notice.{payable}
 use Rattle.settlement.specs.Groups.{groupRetention}
@@ -15,9 +16,9 @@ use Rattle.settlement.specs.Claims.{claim, arrears}
 use Rattle.settlement.specs.declared.groups.Grouping.{Grouping}
 use Rattle.book.specs.rules.Periods.{monthOf, zeros, raised, amounted, withNotice, withReceipt}
 use Rattle.book.specs.rules.Kinds.{isSettle}
-use Rattle.book.specs.rules.Step.{payoutWords}
+use Rattle.book.specs.rules.Purses.{withDrawn}
 use Rattle.book.specs.rules.Valid.{Sound}
-use Rattle.book.specs.history.Log.{Account, entered, addsBy, addsTo, receivedFrom, monthIn}
+use Rattle.book.specs.history.Log.{Account, entered, movedIn, addsBy, addsTo, receivedFrom, monthIn}
 use Rattle.book.specs.declared.Stage.{Stage}
 use Rattle.book.specs.declared.Stage.the-variants.{Opened, Noticed, Settled}
 use Rattle.book.specs.declared.entries.Entry.{Entry}
@@ -46,7 +47,7 @@ Staged n grouping p a Settled = Since n grouping p a
 
 pub record Tracks (n : ℕ) (grouping : Grouping) (p : Period) (a : Account) : Type 0 where
   pub month : monthOf n p ≡ monthIn n a
-  pub received : (i : ℕ) → at (p .received) i ≡ a .before i + a .late i
+  pub received : (i : ℕ) → i < n → at (p .received) i ≡ a .before i + a .late i
   pub paid : (i : ℕ) → i < n → at (p .paid) i ≡ a .paid i
   pub staged : Staged n grouping p a (p .stage)
 
@@ -57,11 +58,6 @@ with-entry e words a = entered (record { entry = e; words = words }) a
 -- the words are what is paid, below n
 abbrev pub Paid : ℕ → List ℕ → List ℕ → Type 0
 Paid n pays words = (i : ℕ) → i < n → at words i ≡ at pays i
-
--- the first n payout words are what is paid
-pub words-paid : (n : ℕ) (pays words : List ℕ) → Paid n pays (payoutWords n pays words)
-unfolding payoutWords
-words-paid n pays words i h = filled-at (at pays) n i words 0 h
 
 module _ (n : ℕ) {grouping : Grouping} (p : Period) (s : Sound n p) (a : Account) (t : Tracks n grouping p a) (words : List ℕ) (w : Paid n (zeros places) words) where
   -- an entry that pays nothing and settles nothing
@@ -80,7 +76,7 @@ module _ (n : ℕ) {grouping : Grouping} (p : Period) (s : Sound n p) (a : Accou
   unfolding withNotice
   track-notice k q = record {
     month = t .month ∙ month-still n (record { entry = Notice k; words = words }) a (λ i. refl) (λ t i. refl);
-    received = λ i. omega (arith, t .received i, received-grows n (record { entry = Notice k; words = words }) a i);
+    received = λ i h. omega (arith, t .received i h, received-grows n (record { entry = Notice k; words = words }) a i);
     paid = still-paid (Notice k);
     staged = still-unsettled (Notice k) refl (subst (Staged n grouping p a) q (t .staged));
   }
@@ -141,7 +137,7 @@ module _ (n : ℕ) {grouping : Grouping} (p : Period) (s : Sound n p) (a : Accou
     unfolding amounted
     track-amount side tier l f d = record {
       month = month-amount side tier l (f .member) d;
-      received = λ j. omega (arith, t .received j, received-grows n (record { entry = e; words = words }) a j, d .no-receipt j);
+      received = λ j h. omega (arith, t .received j h, received-grows n (record { entry = e; words = words }) a j, d .no-receipt j);
       paid = still-paid e;
       staged = subst (Staged n grouping (amounted p i side tier c) (with-entry e words a)) (sym (f .stage))
           (still-unsettled e (d .no-settle) (subst (Staged n grouping p a) (f .stage) (t .staged)));
@@ -152,9 +148,9 @@ module _ (n : ℕ) {grouping : Grouping} (p : Period) (s : Sound n p) (a : Accou
   unfolding withReceipt
   track-receipt k i cents q h = record {
     month = t .month ∙ month-still n (record { entry = Receipt k i cents; words = words }) a (λ i. refl) (λ t i. refl);
-    received = λ j. omega (
+    received = λ j l. omega (
       arith,
-      t .received j,
+      t .received j l,
       raised-at (p .received) i cents (omega (arith, s .received-size, s .bounded .few)) j,
       received-grows n (record { entry = Receipt k i cents; words = words }) a j,
     );
@@ -162,3 +158,16 @@ module _ (n : ℕ) {grouping : Grouping} (p : Period) (s : Sound n p) (a : Accou
     staged = subst (Staged n grouping (withReceipt p i cents) (with-entry (Receipt k i cents) words a)) (sym q)
         (still-unsettled (Receipt k i cents) refl (subst (Staged n grouping p a) q (t .staged)));
   }
+
+-- cents drawn from purses before settlement, moved into the period and into its account
+pub track-drawn : (n : ℕ) {grouping : Grouping} (p : Period) (a : Account) → Tracks n grouping p a → p .stage ≡ Noticed
+    → (drawn draws : ℕ → ℕ) → ((i : ℕ) → i < n → drawn i ≡ draws i) → Tracks n grouping (withDrawn n drawn p) (movedIn draws a)
+unfolding withDrawn movedIn
+track-drawn n {grouping} p a t q drawn draws same =
+    let u : Unsettled a = subst (Staged n grouping p a) q (t .staged) in
+    record {
+      month = t .month;
+      received = λ i h. omega (arith, cells-at (λ i. at (p .received) i + drawn i) n i h, t .received i h, same i h);
+      paid = t .paid;
+      staged = subst (Staged n grouping (withDrawn n drawn p) (movedIn draws a)) (sym q) (record { unsettled = u .unsettled; none-late = u .none-late });
+    }

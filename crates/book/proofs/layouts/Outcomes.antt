@@ -57,7 +57,8 @@ answerList =
     answer.Accepted ∷ answer.Accepted ∷ answer.Accepted
     ∷ answer.Outside ∷ answer.NoParticipants ∷ answer.FewWords ∷ answer.NotAbove
     ∷ answer.Full ∷ answer.NotInBook ∷ answer.WrongStage ∷ answer.Unequal
-    ∷ answer.PastBound ∷ answer.NotAParticipant ∷ answer.TooMuch ∷ answer.EarlierArrears ∷ []
+    ∷ answer.PastBound ∷ answer.NotAParticipant ∷ answer.TooMuch ∷ answer.EarlierArrears
+    ∷ answer.PursePastBound ∷ []
 
 number-again : (a : Answer) → getD answerList (numberOf a) answer.Accepted ≡ a
 number-again answer.Accepted = refl
@@ -73,6 +74,7 @@ number-again answer.PastBound = refl
 number-again answer.NotAParticipant = refl
 number-again answer.TooMuch = refl
 number-again answer.EarlierArrears = refl
+number-again answer.PursePastBound = refl
 
 pub number-one-to-one : (a b : Answer) → numberOf a ≡ numberOf b → a ≡ b
 number-one-to-one a b e = sym (number-again a) ∙ ap (λ (k : ℕ). getD answerList k answer.Accepted) e ∙ number-again b

@@ -13,8 +13,8 @@ use lib.ListN.{length, getD, take, drop, set, replicate, length-append, length-s
 use lib.Seq.{split-at, set-split, set-append-left, set-append-seam, set-at, getD-take, length-take-le, drop-cons, getD-append-add}
 use Rattle.exact.proofs.Cases.{cases, le-or-lt}
 use Rattle.settlement.specs.declared.groups.Grouping.{Grouping}
-use Rattle.book.specs.rules.Periods.{fresh}
-use Rattle.book.specs.rules.State.{State, view, pack, mostPeriods, centsHeld, heldIn, find, noPeriod, arrearsBefore, earlierArrears, replaced, removed, added}
+use Rattle.book.specs.rules.Periods.{fresh, raised}
+use Rattle.book.specs.rules.State.{State, view, pack, mostPeriods, centsHeld, heldBy, find, noPeriod, arrearsBefore, earlierArrears, replaced, removed, added, withPeriods, withPurses}
 use Rattle.book.specs.rules.Valid.{All, InBook, Valid}
 use Rattle.book.specs.declared.Period.{Period}
 use Rattle.book.specs.declared.Book.{Book}
@@ -40,7 +40,7 @@ module _ {b : Book} (v : Valid b) where
   pub count-few : b .count ≤ mostPeriods
   count-few = omega (arith, count-is, v .fit .few)
 
-  pub kept-held : centsHeld b ≡ heldIn (b .n) (view b .periods)
+  pub kept-held : centsHeld b ≡ heldBy (view b)
   unfolding pack
   kept-held = ap (λ (x : Book). x .held) (v .packed)
 
@@ -140,11 +140,27 @@ slid (y ∷ ys) rest pre x k e =
     (slid ys rest (pre ++ (y ∷ [])) y (length pre + 1) (length-append pre (y ∷ [])))
 
 -- a store, a new period, and a period that leaves, in the record; `held` is what the book then holds
-abbrev pub put : Book → ℕ → Period → ℕ → Book
-put b j p held = record { n = b .n; grouping = b .grouping; highest = b .highest; count = b .count; held = held; periods = set (b .periods) j p }
+abbrev pub put : Book → ℕ → Period → ℕ → List ℕ → Book
+put b j p held purses = record {
+  n = b .n;
+  grouping = b .grouping;
+  highest = b .highest;
+  count = b .count;
+  held = held;
+  periods = set (b .periods) j p;
+  purses = purses;
+}
 
 abbrev pub push : Book → Period → Book
-push b p = record { n = b .n; grouping = b .grouping; highest = p .number; count = b .count + 1; held = b .held; periods = set (b .periods) (b .count) p }
+push b p = record {
+  n = b .n;
+  grouping = b .grouping;
+  highest = p .number;
+  count = b .count + 1;
+  held = b .held;
+  periods = set (b .periods) (b .count) p;
+  purses = b .purses;
+}
 
 abbrev pub drops : Book → ℕ → ℕ → Book
 drops b j held = record {
@@ -154,18 +170,32 @@ drops b j held = record {
   count = b .count - 1;
   held = held;
   periods = set (slide (b .periods) j (b .count - 1 - j)) (b .count - 1) (fresh 0);
+  purses = b .purses;
+}
+
+-- cents added to a purse, in the record
+abbrev pub raise : Book → ℕ → ℕ → Book
+raise b i cents = record {
+  n = b .n;
+  grouping = b .grouping;
+  highest = b .highest;
+  count = b .count;
+  held = b .held + cents;
+  periods = b .periods;
+  purses = raised (b .purses) i cents;
 }
 
 module _ (s : State) where
-  put-pack : (j : ℕ) (p : Period) → j < length (s .periods) → put (pack s) j p (heldIn (s .n) (replaced s j p .periods)) ≡ pack (replaced s j p)
+  put-pack : (j : ℕ) (p : Period) (purses : List ℕ) → j < length (s .periods)
+      → put (pack s) j p (heldBy (replaced (withPurses s purses) j p)) purses ≡ pack (replaced (withPurses s purses) j p)
   unfolding pack replaced
-  put-pack j p h = rw (
+  put-pack j p purses h = rw (
     set-append-left (s .periods) (replicate (mostPeriods - length (s .periods)) (fresh 0)) j p h,
     ← set-split (s .periods) j p h,
     length-set (s .periods) j p,
   )
 
-  push-pack : (p : Period) → length (s .periods) < mostPeriods → heldIn (s .n) (s .periods) ≡ heldIn (s .n) (s .periods ++ (p ∷ [])) → push (pack s) p ≡ pack (added s p)
+  push-pack : (p : Period) → length (s .periods) < mostPeriods → heldBy s ≡ heldBy (added s p) → push (pack s) p ≡ pack (added s p)
   unfolding pack added
   push-pack p h e =
       let ps = s .periods in
@@ -178,7 +208,7 @@ module _ (s : State) where
         append-assoc ps (p ∷ []) (replicate (mostPeriods - (length ps + 1)) (fresh 0)),
       )
 
-module _ (n : ℕ) (grouping : Grouping) (highest : ℕ) (pre ys : List Period) (x : Period) (few : length (pre ++ x ∷ ys) ≤ mostPeriods) where
+module _ (n : ℕ) (grouping : Grouping) (highest : ℕ) (purses : List ℕ) (pre ys : List Period) (x : Period) (few : length (pre ++ x ∷ ys) ≤ mostPeriods) where
   count-one : length (pre ++ x ∷ ys) ≡ suc (length pre + length ys)
   count-one = length-append pre (x ∷ ys) ∙ omega arith
 
@@ -192,26 +222,42 @@ module _ (n : ℕ) (grouping : Grouping) (highest : ℕ) (pre ys : List Period) 
       rw (e, d, m, append-assoc pre (x ∷ ys) r)
       (rw (slid ys r pre x (length pre) refl, ← append-assoc pre ys) (set-at (pre ++ ys) _ r (fresh 0) (length (pre ++ ys)) refl))
 
-  drops-pack : drops (pack (record { n = n; grouping = grouping; highest = highest; periods = pre ++ x ∷ ys })) (length pre) (heldIn n (pre ++ ys))
-      ≡ pack (record { n = n; grouping = grouping; highest = highest; periods = pre ++ ys })
+  abbrev with : List Period → State
+  with ps = record { n = n; grouping = grouping; highest = highest; periods = ps; purses = purses }
+
+  drops-pack : drops (pack (with (pre ++ x ∷ ys))) (length pre) (heldBy (with (pre ++ ys))) ≡ pack (with (pre ++ ys))
   unfolding pack
   drops-pack =
       let d : length (pre ++ x ∷ ys) - 1 ≡ length (pre ++ ys) = omega (arith, count-one, length-append pre ys) in
-      λ z. record { n = n; grouping = grouping; highest = highest; count = d z; held = heldIn n (pre ++ ys); periods = left-rows z }
+      λ z. record { n = n; grouping = grouping; highest = highest; count = d z; held = heldBy (with (pre ++ ys)); periods = left-rows z; purses = purses }
 
 module _ {b : Book} (v : Valid b) where
-  pub stored : (j : ℕ) (p : Period) (held : ℕ) → j < b .count → held ≡ heldIn (b .n) (replaced (view b) j p .periods) → put b j p held ≡ pack (replaced (view b) j p)
-  stored j p held h e = ap₂ (λ (x : Book) k. put x j p k) (v .packed) e ∙ put-pack (view b) j p (omega (arith, count-is v))
+  pub stored : (j : ℕ) (p : Period) (held : ℕ) (purses : List ℕ) → j < b .count → held ≡ heldBy (replaced (withPurses (view b) purses) j p)
+      → put b j p held purses ≡ pack (replaced (withPurses (view b) purses) j p)
+  stored j p held purses h e = ap₂ (λ (x : Book) k. put x j p k purses) (v .packed) e ∙ put-pack (view b) j p purses (omega (arith, count-is v))
 
-  pub pushed : (p : Period) → b .count < mostPeriods → heldIn (b .n) (view b .periods) ≡ heldIn (b .n) (view b .periods ++ (p ∷ [])) → push b p ≡ pack (added (view b) p)
+  pub pushed : (p : Period) → b .count < mostPeriods → heldBy (view b) ≡ heldBy (added (view b) p) → push b p ≡ pack (added (view b) p)
   pushed p h e = ap (λ (x : Book). push x p) (v .packed) ∙ push-pack (view b) p (omega (arith, count-is v)) e
 
-  pub dropped : (j held : ℕ) → j < b .count → held ≡ heldIn (b .n) (removed (view b) j .periods) → drops b j held ≡ pack (removed (view b) j)
+  pub dropped : (j held : ℕ) → j < b .count → held ≡ heldBy (removed (view b) j) → drops b j held ≡ pack (removed (view b) j)
   unfolding removed
   dropped j held h q =
       let ps = view b .periods in
       let l : j < length ps = omega (arith, count-is v) in
       let e = split-at ps j noPeriod l in
       ap₂ (λ (x : Book) k. drops x j k) (v .packed) q
-      ∙ ap₂ (λ (q : List Period) i. drops (pack (record { n = b .n; grouping = b .grouping; highest = b .highest; periods = q })) i (heldIn (b .n) (take j ps ++ drop (suc j) ps))) e (sym (length-take-le j ps (omega arith)))
-      ∙ drops-pack (b .n) (b .grouping) (b .highest) (take j ps) (drop (suc j) ps) (getD ps j noPeriod) (subst (λ (q : List Period). length q ≤ mostPeriods) e (v .fit .few))
+      ∙ ap₂ (λ (q : List Period) i. drops (pack (withPeriods (view b) q)) i (heldBy (withPeriods (view b) (take j ps ++ drop (suc j) ps)))) e (sym (length-take-le j ps (omega arith)))
+      ∙ drops-pack (b .n) (b .grouping) (b .highest) (b .purses) (take j ps) (drop (suc j) ps) (getD ps j noPeriod) (subst (λ (q : List Period). length q ≤ mostPeriods) e (v .fit .few))
+
+  pub raised-purse : (i cents : ℕ) → heldBy (withPurses (view b) (raised (b .purses) i cents)) ≡ b .held + cents
+      → raise b i cents ≡ pack (withPurses (view b) (raised (b .purses) i cents))
+  unfolding pack
+  raised-purse i cents e = λ z. record {
+    n = b .n;
+    grouping = b .grouping;
+    highest = b .highest;
+    count = count-is v z;
+    held = sym e z;
+    periods = ap (λ (x : Book). x .periods) (v .packed) z;
+    purses = raised (b .purses) i cents;
+  }

@@ -1,31 +1,27 @@
 -- What the program's answers are, from the tests that it makes: the same as the definitions'.
-use Prim.Native.Nat.{ℕ, suc, _+_, _-_, _≤_, _<_}
-use mathlib.Core.Path.{_≡_, sym, ap, _∙_}
-use mathlib.Core.Bool.{true, false}
-use mathlib.Core.List.{List, _∷_}
+use Prim.Native.Nat.{ℕ, _+_, _≤_, _<_}
+use mathlib.Core.Path.{_≡_, refl, sym, ap, _∙_}
+use mathlib.Core.Bool.{Bool, true, false, cond, true≢false, false≢true}
+use mathlib.Core.List.{List}
 use native.Mathlib.Omega.{arith}
 use borrow.Author.Tests.{le-ltb, lt-leb, le-leb, ne-eqb}
-use lib.ListN.{length, take, drop}
-use Rattle.exact.specs.Rows.{at, sum}
+use lib.ListN.{length}
+use Rattle.exact.specs.Rows.{places}
 use Rattle.book.specs.Checks.{refusal}
-use Rattle.book.specs.rules.Kinds.{periodOf, isOpen, receiptCents}
-use Rattle.book.specs.rules.Periods.{leaves, holds, changed}
-use Rattle.book.specs.rules.State.{view, pack, heldIn, find, periodAt, replaced, removed}
-use Rattle.book.specs.rules.Refusals.{Input, periodChecks, barring, openChecks, namedChecks, kindChecks, checks}
-use Rattle.book.specs.rules.Step.{Outcome, accepted, Reply, reply}
+use Rattle.book.specs.rules.Kinds.{periodOf, isOpen, isPurse, purseOf, purseCents}
+use Rattle.book.specs.rules.Periods.{zeros, raised}
+use Rattle.book.specs.rules.State.{view, pack, heldBy, find, periodAt, withPurses}
+use Rattle.book.specs.rules.Refusals.{Input, periodChecks, barring, openChecks, purseChecks, namedChecks, kindChecks, checks}
+use Rattle.book.specs.rules.Step.{Outcome, payoutWords, purseRaised, accepted, Reply, reply}
 use Rattle.book.specs.rules.Valid.{Valid}
 use Rattle.book.specs.rules.Answers.{numberOf, replied}
 use Rattle.book.specs.declared.answers.Answer.{Answer}
 use Rattle.book.specs.declared.steps.Applied.{Applied}
 use Rattle.book.specs.declared.entries.Entry.{Entry}
-use Rattle.book.specs.declared.Period.{Period}
 use Rattle.book.specs.declared.Book.{Book}
-use Rattle.book.proofs.rules.ChangeLaws.{Changes}
-use Rattle.book.proofs.rules.EntryChanges.{change-cents, left-empty}
-use Rattle.book.proofs.rules.ListLaws.{find-split}
-use Rattle.book.proofs.rules.StepLaws.{Names, step-accepted, step-refused}
-use Rattle.book.proofs.rules.ValidLaws.{named-in-book, named-changes}
-use Rattle.book.proofs.history.Invariant.{held-join}
+use Rattle.book.proofs.rules.StepLaws.{Raises, step-accepted, step-refused, accepted-raises}
+use Rattle.book.proofs.rules.CentsLaws.{raised-held}
+use Rattle.book.proofs.records.Packing.{kept-held, raise, raised-purse}
 use Rattle.book.specs.inner.Ways.{Entered}
 
 module _ {b : Book} (v : Valid b) (e : Entry) (w : List ℕ) where
@@ -69,55 +65,37 @@ module _ {b : Book} (v : Valid b) (e : Entry) (w : List ℕ) where
     pub to-open : isOpen e ≡ true → refusal (checks (view b) (record { entry = e; words = w })) ≡ refusal (openChecks (view b) (periodOf e))
     to-open o = to-kind ∙ rw o
 
-    pub to-named : isOpen e ≡ false → refusal (checks (view b) (record { entry = e; words = w })) ≡ refusal (namedChecks (view b) e)
-    to-named o = to-kind ∙ rw o
+    pub to-purse : isOpen e ≡ false → isPurse e ≡ true → refusal (checks (view b) (record { entry = e; words = w })) ≡ refusal (purseChecks (view b) (purseOf e) (purseCents e))
+    to-purse o u = to-kind ∙ rest (isOpen e) (isPurse e) o u
+      where
+        rest : (t v : Bool) → t ≡ false → v ≡ true → refusal (cond t (openChecks (view b) (periodOf e)) (cond v (purseChecks (view b) (purseOf e) (purseCents e)) (namedChecks (view b) e)))
+            ≡ refusal (purseChecks (view b) (purseOf e) (purseCents e))
+        rest true v o u = absurd (true≢false o)
+        rest false true o u = refl
+        rest false false o u = absurd (false≢true u)
 
-    pub not-found : isOpen e ≡ false → length (view b .periods) ≤ find (periodOf e) (view b .periods)
+    pub to-named : isOpen e ≡ false → isPurse e ≡ false → refusal (checks (view b) (record { entry = e; words = w })) ≡ refusal (namedChecks (view b) e)
+    to-named o u = to-kind ∙ rest (isOpen e) (isPurse e) o u
+      where
+        rest : (t v : Bool) → t ≡ false → v ≡ false → refusal (cond t (openChecks (view b) (periodOf e)) (cond v (purseChecks (view b) (purseOf e) (purseCents e)) (namedChecks (view b) e)))
+            ≡ refusal (namedChecks (view b) e)
+        rest true v o u = absurd (true≢false o)
+        rest false true o u = absurd (true≢false u)
+        rest false false o u = refl
+
+    pub not-found : isOpen e ≡ false → isPurse e ≡ false → length (view b .periods) ≤ find (periodOf e) (view b .periods)
         → refusal (checks (view b) (record { entry = e; words = w })) ≡ 8
-    not-found o l = to-named o ∙ rw (le-leb (length (view b .periods)) (find (periodOf e) (view b .periods)) l)
+    not-found o u l = to-named o u ∙ rw (le-leb (length (view b .periods)) (find (periodOf e) (view b .periods)) l)
 
-    pub to-period : isOpen e ≡ false → find (periodOf e) (view b .periods) < length (view b .periods)
+    pub to-period : isOpen e ≡ false → isPurse e ≡ false → find (periodOf e) (view b .periods) < length (view b .periods)
         → refusal (checks (view b) (record { entry = e; words = w }))
         ≡ refusal (periodChecks (b .n) (barring e (view b .periods)) e (periodAt (periodOf e) (view b .periods)))
-    to-period o l = to-named o ∙ rw (lt-leb (length (view b .periods)) (find (periodOf e) (view b .periods)) l)
+    to-period o u l = to-named o u ∙ rw (lt-leb (length (view b .periods)) (find (periodOf e) (view b .periods)) l)
 
-  -- the cents held, as an entry leaves the period that it names
-  module _ (i : Entered (view b) (record { entry = e; words = w })) (o : Names (view b) (record { entry = e; words = w })) where
-    abbrev k : ℕ
-    k = find (periodOf e) (view b .periods)
-
-    abbrev p : Period
-    p = periodAt (periodOf e) (view b .periods)
-
-    abbrev p′ : Period
-    p′ = changed (b .n) (b .grouping) e p .period
-
-    d : Changes (b .n) (receiptCents e) p (changed (b .n) (b .grouping) e p)
-    d = named-changes (view b) x (v .fit) i o
-
-    all : heldIn (b .n) (view b .periods) ≡ heldIn (b .n) (take k (view b .periods)) + (holds (b .n) p + heldIn (b .n) (drop (suc k) (view b .periods)))
-    unfolding heldIn
-    all = ap (heldIn (b .n)) (find-split (periodOf e) (view b .periods) (o .found)) ∙ held-join (b .n) (take k (view b .periods)) (p ∷ drop (suc k) (view b .periods))
-
-    pub held-replaced : let p = periodAt (periodOf e) (view b .periods) in
-        heldIn (b .n) (replaced (view b) (find (periodOf e) (view b .periods)) (changed (b .n) (b .grouping) e p .period) .periods) + sum (at (changed (b .n) (b .grouping) e p .pays)) (b .n)
-        ≡ heldIn (b .n) (view b .periods) + receiptCents e
-    unfolding replaced heldIn
-    held-replaced = omega (
-      arith,
-      all,
-      held-join (b .n) (take k (view b .periods)) (p′ ∷ drop (suc k) (view b .periods)),
-      change-cents (b .n) p (named-in-book (view b) x (v .fit) i o .sound) (receiptCents e) (changed (b .n) (b .grouping) e p) d,
-    )
-
-    pub held-removed : let p = periodAt (periodOf e) (view b .periods) in leaves (b .n) (changed (b .n) (b .grouping) e p .period) ≡ true
-        → heldIn (b .n) (removed (view b) (find (periodOf e) (view b .periods)) .periods) + sum (at (changed (b .n) (b .grouping) e p .pays)) (b .n)
-        ≡ heldIn (b .n) (view b .periods) + receiptCents e
-    unfolding removed
-    held-removed l = omega (
-      arith,
-      all,
-      held-join (b .n) (take k (view b .periods)) (drop (suc k) (view b .periods)),
-      change-cents (b .n) p (named-in-book (view b) x (v .fit) i o .sound) (receiptCents e) (changed (b .n) (b .grouping) e p) d,
-      left-empty (b .n) p (named-in-book (view b) x (v .fit) i o .sound) (receiptCents e) (changed (b .n) (b .grouping) e p) d l,
-    )
+  -- a purse entry that is accepted
+  pub raised-reply : Raises (view b) (record { entry = e; words = w }) → refusal (checks (view b) (record { entry = e; words = w })) ≡ 0
+      → record { answer = 0; rounds = 0; book = raise b (purseOf e) (purseCents e); words = payoutWords (b .n) (zeros places) w } ≡ reply b (record { entry = e; words = w })
+  raised-reply o z =
+      let held : heldBy (withPurses (view b) (raised (b .purses) (purseOf e) (purseCents e))) ≡ b .held + purseCents e = omega (arith, raised-held (view b) x (v .fit) o, kept-held v) in
+      accepts (purseRaised (view b) (purseOf e) (purseCents e) w) _ z (accepted-raises (view b) x o)
+      (λ k. record { answer = 0; rounds = 0; book = raised-purse v (purseOf e) (purseCents e) held k; words = payoutWords (b .n) (zeros places) w })

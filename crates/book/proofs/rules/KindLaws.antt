@@ -1,19 +1,19 @@
 -- Laws of kinds: every entry has one, and an entry in the last arm of a match has none of those with an arm of their own.
 use Prim.Native.Nat.{ℕ, zero, suc, _-_}
-use mathlib.Core.Path.{_≡_, refl, subst}
-use mathlib.Core.Bool.{true, false, cond, not}
+use mathlib.Core.Path.{_≡_, refl, subst, _∙_}
+use mathlib.Core.Bool.{Bool, true, false, cond, not, true≢false, false≢true}
 use mathlib.Core.List.{List, [], _∷_, _++_}
 use native.Mathlib.Omega.{arith}
-use borrow.Author.Tests.{ne-eqb}
+use borrow.Author.Tests.{eqb-true, eq-eqb, ne-eqb}
 use lib.Dec.{T, eqb}
 use lib.ListN.{length}
 use mir.Val.{hasKey}
 use types.Run.{OneOf, miss}
 use denote.Enum.Declared.{tagOf}
 use Rattle.book.specs.layouts.Entries.{bodyLengths, kindOf}
-use Rattle.book.specs.rules.Kinds.{EveryKind}
+use Rattle.book.specs.rules.Kinds.{isPurse, isReceipt, isSettle, periodOf, names, EveryKind}
 use Rattle.book.specs.declared.entries.Entry.{Entry}
-use Rattle.book.specs.declared.entries.Entry.the-variants.{Open, Energy, Amount, Notice, Receipt, Settle}
+use Rattle.book.specs.declared.entries.Entry.the-variants.{Open, Energy, Amount, Notice, Receipt, Settle, Purse}
 use Rattle.book.proofs.entries.Entry.{the-type}
 use Rattle.book.proofs.layouts.EntryLaws.{each-kind, kind-known}
 
@@ -25,6 +25,7 @@ tag-kind (Amount _ _ _ _ _) = refl
 tag-kind (Notice _) = refl
 tag-kind (Receipt _ _ _) = refl
 tag-kind (Settle _) = refl
+tag-kind (Purse _ _) = refl
 
 -- the tags of all kinds but these
 abbrev below : ℕ → List ℕ
@@ -47,5 +48,36 @@ not-kind ks k e none one = ne-eqb (kindOf e) (suc k) (λ q.
 
 pub every-kind : EveryKind
 every-kind e = each-kind
-    (λ k. cond (eqb k 1) true (cond (cond (eqb k 2) true (eqb k 3)) true (cond (eqb k 4) true (cond (eqb k 5) true (eqb k 6)))) ≡ true)
-    refl refl refl refl refl refl (kindOf e) (kind-known e)
+    (λ k. cond (eqb k 1) true (cond (cond (eqb k 2) true (eqb k 3)) true (cond (eqb k 4) true (cond (eqb k 5) true (cond (eqb k 6) true (eqb k 7))))) ≡ true)
+    refl refl refl refl refl refl refl (kindOf e) (kind-known e)
+
+-- an entry names the period of its number, unless it is a purse entry
+module _ (k : ℕ) (e : Entry) where
+  both : (t u : Bool) → t ≡ false → cond t false u ≡ u
+  both true u q = absurd (true≢false q)
+  both false u q = refl
+
+  pub names-same : isPurse e ≡ false → periodOf e ≡ k → names k e ≡ true
+  names-same u q = both (isPurse e) (eqb (periodOf e) k) u ∙ eq-eqb (periodOf e) k q
+
+  pub names-none : isPurse e ≡ true → names k e ≡ false
+  names-none = go (isPurse e) (eqb (periodOf e) k)
+    where
+      go : (t u : Bool) → t ≡ true → cond t false u ≡ false
+      go true u q = refl
+      go false u q = absurd (false≢true q)
+
+  pub named-period : names k e ≡ true → periodOf e ≡ k
+  named-period = go (isPurse e) (eqb (periodOf e) k) (eqb-true (periodOf e) k)
+    where
+      go : (t u : Bool) → (u ≡ true → periodOf e ≡ k) → cond t false u ≡ true → periodOf e ≡ k
+      go true u f q = absurd (false≢true q)
+      go false u f q = f q
+
+-- a settle entry is no receipt, and a receipt no settle entry
+module _ (e : Entry) where
+  pub settle-not-receipt : isSettle e ≡ true → isReceipt e ≡ false
+  settle-not-receipt q = rw (eqb-true (kindOf e) 6 q)
+
+  pub receipt-not-settle : isReceipt e ≡ true → isSettle e ≡ false
+  receipt-not-settle q = rw (eqb-true (kindOf e) 5 q)

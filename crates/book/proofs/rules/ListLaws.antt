@@ -1,13 +1,13 @@
 -- Laws of lists of periods: what holds of each, rising numbers, which periods are there, and where one stands.
 use Prim.Native.Nat.{ℕ, zero, suc, _+_, _<_}
-use mathlib.Core.Path.{_≡_, refl, sym, subst, _∙_}
+use mathlib.Core.Path.{_≡_, refl, sym, ap, subst, _∙_}
 use mathlib.Core.List.{List, [], _∷_, _++_}
 use mathlib.Core.Logic.{inl, inr}
 use native.Mathlib.Omega.{arith}
 use lib.ListN.{length, getD, take, drop, set}
-use lib.Seq.{split-at}
+use lib.Seq.{split-at, set-split, getD-set-same, take-set-le, drop-set-lt}
 use Rattle.exact.proofs.Cases.{cases-eq}
-use Rattle.book.specs.rules.State.{numbers, find, noPeriod, periodAt}
+use Rattle.book.specs.rules.State.{heldIn, numbers, find, noPeriod, periodAt}
 use Rattle.book.specs.rules.Valid.{All}
 use Rattle.book.specs.history.Demand3.{Has, Rising}
 use Rattle.book.specs.declared.Period.{Period}
@@ -113,3 +113,25 @@ unfolding find
 find-set k [] j p e = refl
 find-set k (q ∷ l) zero p e = rw e
 find-set k (q ∷ l) (suc j) p e = rw (find-set k l j p e)
+
+-- a period replaced by another: those before and behind it are the same
+module _ (j : ℕ) (l : List Period) (p : Period) (h : j < length l) where
+  pub take-replaced : take j (take j l ++ p ∷ drop (suc j) l) ≡ take j l
+  take-replaced = ap (take j) (sym (set-split l j p h)) ∙ take-set-le j l j p (omega arith)
+
+  pub drop-replaced : drop (suc j) (take j l ++ p ∷ drop (suc j) l) ≡ drop (suc j) l
+  drop-replaced = ap (drop (suc j)) (sym (set-split l j p h)) ∙ drop-set-lt (suc j) l j p (omega arith)
+
+-- so the period of number k, replaced by another of its number, is that one
+module _ (k : ℕ) (l : List Period) (p : Period) (h : find k l < length l) (e : p .number ≡ periodAt k l .number) where
+  pub find-replaced : find k (take (find k l) l ++ p ∷ drop (suc (find k l)) l) ≡ find k l
+  find-replaced = ap (find k) (sym (set-split l (find k l) p h)) ∙ find-set k l (find k l) p e
+
+  pub period-replaced : periodAt k (take (find k l) l ++ p ∷ drop (suc (find k l)) l) ≡ p
+  period-replaced = rw find-replaced (rw (← set-split l (find k l) p h) (getD-set-same l (find k l) p noPeriod h))
+
+-- cents held over two lists of periods
+pub held-join : (n : ℕ) (l r : List Period) → heldIn n (l ++ r) ≡ heldIn n l + heldIn n r
+unfolding heldIn
+held-join n [] r = omega arith
+held-join n (p ∷ l) r = omega (arith, held-join n l r)

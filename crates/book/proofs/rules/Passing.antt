@@ -3,18 +3,22 @@ use Prim.Native.Nat.{ℕ, zero, suc, _+_, _-_, _≤_, _<_}
 use mathlib.Core.Path.{_≡_, refl, subst}
 use mathlib.Core.Bool.{Bool, true, false, not, true≢false, false≢true}
 use mathlib.Core.Logic.{_⊎_, inl, inr}
+use native.Mathlib.Nat.{pos-of-ne-zero}
 use native.Mathlib.Omega.{arith}
-use borrow.Author.Tests.{ltb-false, leb-false, eqb-true, not-false}
+use borrow.Author.Tests.{ltb-false, leb-false, eqb-true, eqb-false, not-false}
 use lib.Dec.{eqb, eqb·suc-zero}
 use Rattle.exact.specs.Rows.{places, at}
 use Rattle.exact.specs.Energy.{quantityLimit, priceLimit}
 use Rattle.settlement.specs.Month.{sideLimit, tiers}
 use Rattle.book.specs.Checks.{refusal}
-use Rattle.book.specs.layouts.Allowed.{centsLimit, tierOutside, outside, allowed}
+use Rattle.book.specs.layouts.Entries.{kindOf, field}
+use Rattle.book.specs.layouts.Allowed.{centsLimit, tierOutside, receiptOutside, outside, allowed}
+use Rattle.book.specs.rules.Kinds.{isPurse, purseOf, purseCents}
 use Rattle.book.specs.rules.Periods.{isOpened, isNoticed, isSettled, sideTotal}
 use Rattle.book.specs.rules.Refusals.{receivable, amountChecks, noticeChecks, receiptChecks, settleChecks}
 use Rattle.book.specs.declared.Stage.{Stage}
 use Rattle.book.specs.declared.Stage.the-variants.{Opened, Noticed, Settled}
+use Rattle.book.specs.declared.entries.Entry.{Entry}
 use Rattle.book.specs.declared.entries.Entry.the-variants.{Energy, Amount, Receipt}
 use Rattle.book.specs.declared.kinds.Addition.{Addition}
 use Rattle.book.specs.declared.Period.{Period}
@@ -25,10 +29,10 @@ opened-stage Opened e = refl
 opened-stage Noticed e = absurd (true≢false e)
 opened-stage Settled e = absurd (true≢false e)
 
-noticed-stage : (s : Stage) → not (isNoticed s) ≡ false → s ≡ Noticed
-noticed-stage Opened e = absurd (true≢false e)
+pub noticed-stage : (s : Stage) → isNoticed s ≡ true → s ≡ Noticed
+noticed-stage Opened e = absurd (false≢true e)
 noticed-stage Noticed e = refl
-noticed-stage Settled e = absurd (true≢false e)
+noticed-stage Settled e = absurd (false≢true e)
 
 later-stage : (s : Stage) → isOpened s ≡ false → (s ≡ Noticed) ⊎ (s ≡ Settled)
 later-stage Opened e = absurd (true≢false e)
@@ -77,6 +81,13 @@ receipt-inside k i cents e =
     let f = none-false (outside (Receipt k i cents)) e in
     (leb-false places i (f .0), ltb-false centsLimit cents (f .1 .1 .0))
 
+pub purse-fields : (e : Entry) → allowed e ≡ true → isPurse e ≡ true → (purseOf e < places) × (purseCents e ≤ centsLimit) × (0 < purseCents e)
+purse-fields e a q =
+    let i = field e 0 in
+    let cents = field e 1 in
+    let f = none-false (receiptOutside i cents) (rw (eqb-true (kindOf e) 7 q) at a) in
+    (rw q (leb-false places i (f .0)), rw q (ltb-false centsLimit cents (f .1 .1 .0)), rw q (pos-of-ne-zero (eqb-false cents 0 (f .1 .0))))
+
 -- n participants, and the period that the entry names
 module _ (n : ℕ) (p : Period) where
   pub record PassesAmount (i side cents : ℕ) : Type 0 where
@@ -120,4 +131,4 @@ module _ (n : ℕ) (p : Period) where
       }
 
 pub settle-passes : (p : Period) → refusal (settleChecks p) ≡ 0 → p .stage ≡ Noticed
-settle-passes p e = noticed-stage (p .stage) (all-pass (settleChecks p) refl e .0)
+settle-passes p e = noticed-stage (p .stage) (not-false _ (all-pass (settleChecks p) refl e .0))

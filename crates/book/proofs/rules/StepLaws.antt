@@ -1,5 +1,5 @@
--- The two ways of an entry: what is known of an accepted one, and that a refused one changes nothing.
-use Prim.Native.Nat.{ℕ, _<_}
+-- The ways of an entry: what is known of an accepted one, and that a refused one changes nothing.
+use Prim.Native.Nat.{ℕ, _+_, _≤_, _<_}
 use mathlib.Core.Path.{_≡_, refl, sym, _∙_}
 use mathlib.Core.Bool.{Bool, true, false, cond, not}
 use mathlib.Core.List.{drop}
@@ -8,26 +8,36 @@ use native.Mathlib.Omega.{arith}
 use borrow.Author.Tests.{eq-eqb, ne-eqb, eqb-true, eqb-false, ltb-false, leb-false, not-false}
 use lib.Dec.{eqb, ltb, leb}
 use lib.ListN.{length}
+use Rattle.exact.specs.Rows.{at}
+use Rattle.exact.proofs.Cases.{cases}
 use Rattle.book.specs.Checks.{refusal}
 use Rattle.book.specs.layouts.Allowed.{allowed}
-use Rattle.book.specs.rules.Kinds.{periodOf, isOpen}
-use Rattle.book.specs.rules.Periods.{leaves, changed}
+use Rattle.book.specs.rules.Kinds.{periodOf, isOpen, isPurse, purseOf, purseCents}
+use Rattle.book.specs.rules.Periods.{leaves}
 use Rattle.book.specs.rules.State.{State, mostPeriods, find, periodAt, replaced, removed}
-use Rattle.book.specs.rules.Refusals.{Input, periodChecks, barring, openChecks, namedChecks, kindChecks, checks}
-use Rattle.book.specs.rules.Step.{stored, opened, moved, accepted, refused, step}
+use Rattle.book.specs.rules.Purses.{purseLimit, afterDrawing}
+use Rattle.book.specs.rules.Refusals.{Input, periodChecks, barring, openChecks, purseChecks, namedChecks, kindChecks, checks}
+use Rattle.book.specs.rules.Step.{Outcome, stored, opened, purseRaised, acted, accepted, refused, step}
 use Rattle.book.specs.declared.Period.{Period}
 use Rattle.book.proofs.rules.CheckLaws.{passes, all-pass}
 use Rattle.book.specs.inner.Ways.{Entered}
 
 module _ (s : State) (x : Input) where
-  -- the checks of an open entry are passed, or of one that names a period in the book
+  -- the checks of an open entry are passed, of a purse entry, or of one that names a period in the book
   pub record Opens : Type 0 where
     pub is-open : isOpen (x .entry) ≡ true
     pub above : s .highest < periodOf (x .entry)
     pub room : length (s .periods) < mostPeriods
 
+  pub record Raises : Type 0 where
+    pub not-open : isOpen (x .entry) ≡ false
+    pub is-purse : isPurse (x .entry) ≡ true
+    pub member : purseOf (x .entry) < s .n
+    pub fits : at (s .purses) (purseOf (x .entry)) + purseCents (x .entry) ≤ purseLimit
+
   pub record Names : Type 0 where
     pub not-open : isOpen (x .entry) ≡ false
+    pub not-purse : isPurse (x .entry) ≡ false
     pub found : find (periodOf (x .entry)) (s .periods) < length (s .periods)
     pub passed : refusal (periodChecks (s .n) (barring (x .entry) (s .periods)) (x .entry) (periodAt (periodOf (x .entry)) (s .periods))) ≡ 0
 
@@ -49,17 +59,30 @@ module _ (s : State) (x : Input) where
       let f = all-pass (openChecks s (periodOf (x .entry))) refl e in
       record { is-open = q; above = leb-false (periodOf (x .entry)) (s .highest) (f .0); room = leb-false mostPeriods (length (s .periods)) (f .1 .0) }
 
-  pub by-kind : refusal (kindChecks s (x .entry)) ≡ 0 → Opens ⊎ Names
-  by-kind = go (isOpen (x .entry)) refl
-    where
-      naming : isOpen (x .entry) ≡ false → refusal (namedChecks s (x .entry)) ≡ 0 → Names
-      naming q e =
-          let f = passes (leb (length (s .periods)) (find (periodOf (x .entry)) (s .periods))) 7 (drop 1 (namedChecks s (x .entry))) e in
-          record { not-open = q; found = leb-false (length (s .periods)) (find (periodOf (x .entry)) (s .periods)) (f .0); passed = f .1 }
+  pub raises : isOpen (x .entry) ≡ false → isPurse (x .entry) ≡ true → refusal (purseChecks s (purseOf (x .entry)) (purseCents (x .entry))) ≡ 0 → Raises
+  raises o q e =
+      let f = all-pass (purseChecks s (purseOf (x .entry)) (purseCents (x .entry))) refl e in
+      record {
+        not-open = o;
+        is-purse = q;
+        member = leb-false (s .n) (purseOf (x .entry)) (f .0);
+        fits = ltb-false purseLimit (at (s .purses) (purseOf (x .entry)) + purseCents (x .entry)) (f .1 .0);
+      }
 
-      go : (t : Bool) → isOpen (x .entry) ≡ t → refusal (cond t (openChecks s (periodOf (x .entry))) (namedChecks s (x .entry))) ≡ 0 → Opens ⊎ Names
-      go true q e = inl (opens q e)
-      go false q e = inr (naming q e)
+  pub by-kind : refusal (kindChecks s (x .entry)) ≡ 0 → Opens ⊎ (Raises ⊎ Names)
+  by-kind = go (isOpen (x .entry)) (isPurse (x .entry)) refl refl
+    where
+      naming : isOpen (x .entry) ≡ false → isPurse (x .entry) ≡ false → refusal (namedChecks s (x .entry)) ≡ 0 → Names
+      naming q u e =
+          let f = passes (leb (length (s .periods)) (find (periodOf (x .entry)) (s .periods))) 7 (drop 1 (namedChecks s (x .entry))) e in
+          record { not-open = q; not-purse = u; found = leb-false (length (s .periods)) (find (periodOf (x .entry)) (s .periods)) (f .0); passed = f .1 }
+
+      go : (t u : Bool) → isOpen (x .entry) ≡ t → isPurse (x .entry) ≡ u
+          → refusal (cond t (openChecks s (periodOf (x .entry))) (cond u (purseChecks s (purseOf (x .entry)) (purseCents (x .entry))) (namedChecks s (x .entry)))) ≡ 0
+          → Opens ⊎ (Raises ⊎ Names)
+      go true u q r e = inl (opens q e)
+      go false true q r e = inr (inl (raises q r e))
+      go false false q r e = inr (inr (naming q r e))
 
   pub step-accepted : refusal (checks s x) ≡ 0 → step s x ≡ accepted s x
   unfolding step
@@ -73,20 +96,20 @@ module _ (s : State) (x : Input) where
   unfolding accepted
   accepted-opens o = rw (o .is-open)
 
-  pub accepted-names : Names → accepted s x
-      ≡ moved s (find (periodOf (x .entry)) (s .periods)) (changed (s .n) (s .grouping) (x .entry) (periodAt (periodOf (x .entry)) (s .periods))) (x .words)
+  pub accepted-raises : Raises → accepted s x ≡ purseRaised s (purseOf (x .entry)) (purseCents (x .entry)) (x .words)
   unfolding accepted
-  accepted-names o = rw (o .not-open)
+  accepted-raises o = rw (o .not-open, o .is-purse)
+
+  pub accepted-names : Names → accepted s x ≡ acted (afterDrawing s (x .entry)) x
+  unfolding accepted
+  accepted-names o = rw (o .not-open, o .not-purse)
 
   -- an accepted entry is answered 0, so an entry answered 0 was accepted
   pub accepted-answer : accepted s x .answer ≡ 0
-  unfolding accepted
-  accepted-answer = go (isOpen (x .entry))
-    where
-      go : (t : Bool) → cond t (opened s (periodOf (x .entry)) (x .words))
-          (moved s (find (periodOf (x .entry)) (s .periods)) (changed (s .n) (s .grouping) (x .entry) (periodAt (periodOf (x .entry)) (s .periods))) (x .words)) .answer ≡ 0
-      go true = refl
-      go false = refl
+  unfolding accepted acted
+  accepted-answer =
+      let P : Outcome → Type 0 = λ o. o .answer ≡ 0 in
+      cases P (isOpen (x .entry)) (λ _. refl) (λ _. cases P (isPurse (x .entry)) (λ _. refl) (λ _. refl))
 
   pub step-answer : step s x .answer ≡ refusal (checks s x)
   unfolding step

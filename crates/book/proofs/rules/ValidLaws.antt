@@ -18,22 +18,24 @@ use Rattle.settlement.specs.Settling.{held}
 use Rattle.settlement.proofs.Laws.{grouping-allowed}
 use Rattle.settlement.specs.declared.groups.Grouping.{Grouping}
 use Rattle.book.specs.Checks.{refusal}
-use Rattle.book.specs.rules.Kinds.{periodOf, isOpen, isAmount, isNotice, isReceipt, isSettle, receiptCents}
-use Rattle.book.specs.rules.Periods.{isOpened, isSettled, zeros, holds, sideTotal, fresh, leaves, Change, changed, withLateReceipt}
-use Rattle.book.specs.rules.State.{State, view, pack, mostPeriods, find, periodAt, replaced, removed, added}
+use Rattle.book.specs.rules.Kinds.{periodOf, isOpen, isPurse, isAmount, isNotice, isReceipt, isSettle, receiptCents, purseOf, purseCents}
+use Rattle.book.specs.rules.Periods.{isOpened, isSettled, zeros, raised, holds, sideTotal, fresh, leaves, Change, changed, withLateReceipt}
+use Rattle.book.specs.rules.State.{State, view, pack, mostPeriods, find, periodAt, replaced, removed, added, withPurses}
+use Rattle.book.specs.rules.Purses.{purseLimit, afterDrawing}
 use Rattle.book.specs.rules.Makings.{makingChecks, groupingOf, noGrouping, made}
 use Rattle.book.specs.rules.Refusals.{Input, checks}
-use Rattle.book.specs.rules.Step.{Outcome, stored, accepted, step, reply}
+use Rattle.book.specs.rules.Step.{Outcome, stored, acted, accepted, step, reply}
 use Rattle.book.specs.rules.Valid.{All, InBook, SoundState, Valid, StaysValid, RefusalChangesNothing, RoundsOfSettlements}
 use Rattle.book.specs.declared.entries.Entry.{Entry}
 use Rattle.book.specs.declared.makings.Making.{Making}
 use Rattle.book.specs.declared.Period.{Period}
-use Rattle.book.proofs.rules.CellLaws.{zeros-length, zeros-at, zeros-over}
+use Rattle.book.proofs.rules.CellLaws.{zeros-length, zeros-at, zeros-over, raised-length, raised-at}
 use Rattle.book.proofs.rules.ChangeLaws.{Changes, no-pays}
 use Rattle.book.proofs.rules.EntryChanges.{entry-changes, entry-row}
 use Rattle.book.proofs.rules.ListLaws.{all-join, all-left, all-right, find-split}
 use Rattle.book.proofs.rules.MakingLaws.{accepted-few, accepted-grouped}
-use Rattle.book.proofs.rules.StepLaws.{Opens, Names, enters, by-kind, step-accepted, step-refused, accepted-opens, accepted-names, step-answer}
+use Rattle.book.proofs.rules.StepLaws.{Opens, Raises, Names, enters, by-kind, step-accepted, step-refused, accepted-opens, accepted-raises, accepted-names, step-answer}
+use Rattle.book.proofs.rules.DrawingLaws.{after-fit, after-names, after-entered}
 use Rattle.book.specs.inner.Ways.{Entered}
 
 -- a period just opened
@@ -87,7 +89,7 @@ module _ (s : State) (x : Input) (f : SoundState s) (i : Entered s x) (o : Names
   named-in-book = all-right (InBook (s .n) (s .grouping)) older (named ∷ younger) split .0
 
   pub named-changes : Changes (s .n) (receiptCents (x .entry)) named (changed (s .n) (s .grouping) (x .entry) named)
-  named-changes = entry-changes (s .n) named named-in-book (x .entry) _ (o .not-open) (i .fields) (o .passed)
+  named-changes = entry-changes (s .n) named named-in-book (x .entry) _ (o .not-open) (o .not-purse) (i .fields) (o .passed)
 
   sizes : length (s .periods) ≡ length older + suc (length younger)
   sizes = ap length (find-split (periodOf (x .entry)) (s .periods) (o .found)) ∙ length-append older (named ∷ younger)
@@ -104,13 +106,21 @@ module _ (s : State) (x : Input) (f : SoundState s) (i : Entered s x) (o : Names
         grouped = f .grouped;
         few = omega (arith, f .few, sizes, length-append older younger);
         each = all-join (InBook (s .n) (s .grouping)) older younger left right;
+        purses-size = f .purses-size;
+        purse-le = f .purse-le;
       })
       (λ q. record {
         many = f .many;
         grouped = f .grouped;
         few = omega (arith, f .few, sizes, length-append older (p′ ∷ younger));
-        each = all-join (InBook (s .n) (s .grouping)) older (p′ ∷ younger) left (record { sound = named-changes .sound; stays = q; row = entry-row (s .n) named named-in-book (x .entry) _ (o .not-open) (o .passed) }, right);
+        each = all-join (InBook (s .n) (s .grouping)) older (p′ ∷ younger) left (record { sound = named-changes .sound; stays = q; row = entry-row (s .n) named named-in-book (x .entry) _ (o .not-open) (o .not-purse) (o .passed) }, right);
+        purses-size = f .purses-size;
+        purse-le = f .purse-le;
       })
+
+acted-fit : (s : State) (x : Input) → SoundState s → Entered s x → Names s x → SoundState (acted s x .state)
+unfolding acted
+acted-fit s x f i o = moved-fit s x f i o
 
 module _ (s : State) (x : Input) (f : SoundState s) where
   opened-fit : Opens s x → SoundState (added s (fresh (periodOf (x .entry))))
@@ -122,14 +132,31 @@ module _ (s : State) (x : Input) (f : SoundState s) where
         grouped = f .grouped;
         few = omega (arith, length-append (s .periods) (p ∷ []), o .room);
         each = all-join (InBook (s .n) (s .grouping)) (s .periods) (p ∷ []) (f .each) (fresh-in-book (s .n) (s .grouping) (periodOf (x .entry)) (f .many), tt);
+        purses-size = f .purses-size;
+        purse-le = f .purse-le;
+      }
+
+  raised-fit : Raises s x → SoundState (withPurses s (raised (s .purses) (purseOf (x .entry)) (purseCents (x .entry))))
+  raised-fit o =
+      let i = purseOf (x .entry) in
+      let c = purseCents (x .entry) in
+      record {
+        many = f .many;
+        grouped = f .grouped;
+        few = f .few;
+        each = f .each;
+        purses-size = raised-length (s .purses) i c ∙ f .purses-size;
+        purse-le = λ j h. rw (raised-at (s .purses) i c (omega (arith, o .member, f .many, f .purses-size)) j)
+            (cases-eq (λ z. z + at (s .purses) j ≤ purseLimit) i j (λ e. subst (λ k. c + at (s .purses) k ≤ purseLimit) e (omega (arith, o .fits))) (λ _. omega (arith, f .purse-le j h)));
       }
 
   pub step-fit : SoundState (step s x .state)
   step-fit = go (eqb (refusal (checks s x)) 0) refl
     where
-      taken : Entered s x → Opens s x ⊎ Names s x → refusal (checks s x) ≡ 0 → SoundState (step s x .state)
+      taken : Entered s x → Opens s x ⊎ (Raises s x ⊎ Names s x) → refusal (checks s x) ≡ 0 → SoundState (step s x .state)
       taken i (inl o) e = rw (step-accepted s x e, accepted-opens s x o) (opened-fit o)
-      taken i (inr o) e = rw (step-accepted s x e, accepted-names s x o) (moved-fit s x f i o)
+      taken i (inr (inl o)) e = rw (step-accepted s x e, accepted-raises s x o) (raised-fit o)
+      taken i (inr (inr o)) e = rw (step-accepted s x e, accepted-names s x o) (acted-fit (afterDrawing s (x .entry)) x (after-fit s (x .entry) f (o .found)) (after-entered s x i) (after-names s x f o))
 
       go : (t : Bool) → eqb (refusal (checks s x)) 0 ≡ t → SoundState (step s x .state)
       go true q =
@@ -146,6 +173,7 @@ view-pack s = λ z. record {
   grouping = s .grouping;
   highest = s .highest;
   periods = take-append-seam (s .periods) (replicate (mostPeriods - length (s .periods)) (fresh 0)) z;
+  purses = s .purses;
 }
 
 pub pack-valid : (s : State) → SoundState s → Valid (pack s)
@@ -160,6 +188,8 @@ made-fit m = record {
   few = omega arith;
   grouped = go (eqb (refusal (makingChecks m)) 0) refl;
   each = tt;
+  purses-size = zeros-length places;
+  purse-le = λ i _. omega (arith, zeros-at places i);
 }
   where
     go : (t : Bool) → eqb (refusal (makingChecks m)) 0 ≡ t → groupingAllowed (cond t (m .n) 0) (cond t (groupingOf m) noGrouping) ≡ true
@@ -189,8 +219,11 @@ changed-rounds n grouping e p q =
     (λ _. rw q refl)))
 
 accepted-rounds : (s : State) (x : Input) → isSettle (x .entry) ≡ false → accepted s x .rounds ≡ 0
-unfolding accepted
-accepted-rounds s x q = cases (λ (o : Outcome). o .rounds ≡ 0) (isOpen (x .entry)) (λ _. refl) (λ _. changed-rounds (s .n) (s .grouping) (x .entry) _ q)
+unfolding accepted acted
+accepted-rounds s x q =
+    let P : Outcome → Type 0 = λ o. o .rounds ≡ 0 in
+    cases P (isOpen (x .entry)) (λ _. refl)
+    (λ _. cases P (isPurse (x .entry)) (λ _. refl) (λ _. changed-rounds _ _ (x .entry) _ q))
 
 pub rounds-of-settlements : RoundsOfSettlements
 unfolding reply step

@@ -1,5 +1,6 @@
--- 01's limits, its examples of them (01, Reckoned examples) among them, and those of groups and reserves (02, a), each at
--- the limit and one outside it. The numbers are the papers' own: a limit that code and definitions share wrongly is found.
+-- 01's limits, its examples of them (01, Reckoned examples) among them, and those of groups and reserves (02, a) and of
+-- purses (02, c), each at the limit and one outside it. The numbers are the papers' own: a limit that code and definitions
+-- share wrongly is found.
 use Prim.Native.Nat.{ℕ, _-_}
 use mathlib.Core.Path.{_≡_}
 use mathlib.Core.List.{List, [], _∷_, _++_}
@@ -13,7 +14,7 @@ use Rattle.book.specs.rules.Step.{step}
 use Rattle.book.specs.examples.Months.{stateAfter, book, lent, noticeA, settledA, hundred, openings}
 use Rattle.book.specs.declared.makings.Making.{Making}
 use Rattle.book.specs.declared.entries.Entry.{Entry}
-use Rattle.book.specs.declared.entries.Entry.the-variants.{Open, Energy, Amount, Notice, Receipt, Settle}
+use Rattle.book.specs.declared.entries.Entry.the-variants.{Open, Energy, Amount, Notice, Receipt, Settle, Purse}
 
 -- the answers to entries, each of them given to the same book
 abbrev pub answersOf : State → List ℕ → List Entry → List ℕ
@@ -87,6 +88,9 @@ pub record FieldLimits : Type 0 where
   pub most-cents-amount : of64 opened (Amount 1 0 1 5 10_000_000_000_000 ∷ Amount 1 0 1 5 10_000_000_000_001 ∷ []) ≡ 0 ∷ 3 ∷ []
   pub least-cents-receipt : of64 mostPayable (Receipt 1 63 1 ∷ Receipt 1 63 0 ∷ []) ≡ 0 ∷ 3 ∷ []
   pub most-cents-receipt : of64 mostPayable (Receipt 1 63 10_000_000_000_000 ∷ Receipt 1 63 10_000_000_000_001 ∷ []) ≡ 0 ∷ 3 ∷ []
+  pub participant-purse : of64 [] (Purse 63 1 ∷ Purse 64 1 ∷ []) ≡ 0 ∷ 3 ∷ []
+  pub least-cents-purse : of64 [] (Purse 63 1 ∷ Purse 63 0 ∷ []) ≡ 0 ∷ 3 ∷ []
+  pub most-cents-purse : of64 [] (Purse 63 10_000_000_000_000 ∷ Purse 63 10_000_000_000_001 ∷ []) ≡ 0 ∷ 3 ∷ []
 
 -- reading and writing (01, Entries, and Refused, numbers 1, 2, 3 and 5), with each field at its largest
 pub record ByteLimits : Type 0 where
@@ -96,13 +100,14 @@ pub record ByteLimits : Type 0 where
   pub notice : JustBytes (4 ∷ periodBytes) (Notice 4_294_967_295)
   pub receipt : JustBytes (5 ∷ periodBytes ++ 63 ∷ centsBytes) (Receipt 4_294_967_295 63 10_000_000_000_000)
   pub settle : JustBytes (6 ∷ periodBytes) (Settle 4_294_967_295)
+  pub purse : JustBytes (7 ∷ 63 ∷ centsBytes) (Purse 63 10_000_000_000_000)
   -- no byte, and no byte at the place
   pub no-byte : reading [] 0 ≡ record { answer = 1; place = 0; entry = [] }
   pub last-place : reading (9 ∷ 1 ∷ periodBytes) 1 ≡ record { answer = 0; place = 6; entry = Open 4_294_967_295 ∷ [] }
   pub at-end : reading (1 ∷ periodBytes) 5 ≡ record { answer = 1; place = 5; entry = [] }
-  -- kinds 1 and 6 are known by their first byte alone, and kinds 0 and 7 are not
+  -- kinds 1 and 7 are known by their first byte alone, and kinds 0 and 8 are not
   pub first-kind : (reading (1 ∷ []) 0 .answer ≡ 1) × (reading (0 ∷ []) 0 ≡ record { answer = 2; place = 0; entry = [] })
-  pub last-kind : (reading (6 ∷ []) 0 .answer ≡ 1) × (reading (7 ∷ []) 0 ≡ record { answer = 2; place = 0; entry = [] })
+  pub last-kind : (reading (7 ∷ []) 0 .answer ≡ 1) × (reading (8 ∷ []) 0 ≡ record { answer = 2; place = 0; entry = [] })
   -- a field outside its values is 3, after a missing body in reading and before missing room in writing
   pub read-outside : reading (4 ∷ periodBytes ++ 5 ∷ periodBytes ++ 64 ∷ centsBytes) 5 ≡ record { answer = 3; place = 5; entry = [] }
   pub read-outside-short : reading (5 ∷ periodBytes ++ 64 ∷ take 7 centsBytes) 0 ≡ record { answer = 1; place = 0; entry = [] }
@@ -138,9 +143,9 @@ pub record BookLimits : Type 0 where
   pub not-opened : of3 opened (Energy 2 0 0 1 1 ∷ Amount 2 0 0 0 1 ∷ Notice 2 ∷ Receipt 2 0 1 ∷ Settle 2 ∷ Notice 0 ∷ []) ≡ 8 ∷ 8 ∷ 8 ∷ 8 ∷ 8 ∷ 8 ∷ []
   pub has-left : of3 (Open 1 ∷ Notice 1 ∷ Settle 1 ∷ []) (Open 1 ∷ Notice 1 ∷ Open 2 ∷ []) ≡ 6 ∷ 8 ∷ 0 ∷ []
   -- 9: each kind at each stage
-  pub before-notice : of3 opened (Energy 1 0 0 1 1 ∷ Amount 1 0 0 0 1 ∷ Notice 1 ∷ Receipt 1 0 1 ∷ Settle 1 ∷ []) ≡ 0 ∷ 0 ∷ 0 ∷ 9 ∷ 9 ∷ []
-  pub after-notice : of3 noticeA (Energy 7 0 0 1 1 ∷ Amount 7 0 0 0 1 ∷ Notice 7 ∷ Receipt 7 0 1 ∷ Settle 7 ∷ []) ≡ 9 ∷ 9 ∷ 9 ∷ 0 ∷ 0 ∷ []
-  pub once-settled : of3 settledA (Energy 7 0 0 1 1 ∷ Amount 7 0 0 0 1 ∷ Notice 7 ∷ Receipt 7 0 1 ∷ Settle 7 ∷ []) ≡ 9 ∷ 9 ∷ 9 ∷ 0 ∷ 9 ∷ []
+  pub before-notice : of3 opened (Energy 1 0 0 1 1 ∷ Amount 1 0 0 0 1 ∷ Notice 1 ∷ Receipt 1 0 1 ∷ Settle 1 ∷ Purse 0 1 ∷ []) ≡ 0 ∷ 0 ∷ 0 ∷ 9 ∷ 9 ∷ 0 ∷ []
+  pub after-notice : of3 noticeA (Energy 7 0 0 1 1 ∷ Amount 7 0 0 0 1 ∷ Notice 7 ∷ Receipt 7 0 1 ∷ Settle 7 ∷ Purse 0 1 ∷ []) ≡ 9 ∷ 9 ∷ 9 ∷ 0 ∷ 0 ∷ 0 ∷ []
+  pub once-settled : of3 settledA (Energy 7 0 0 1 1 ∷ Amount 7 0 0 0 1 ∷ Notice 7 ∷ Receipt 7 0 1 ∷ Settle 7 ∷ Purse 0 1 ∷ []) ≡ 9 ∷ 9 ∷ 9 ∷ 0 ∷ 9 ∷ 0 ∷ []
   -- 10: a cent between the sides
   pub equal-sides : of3 (sides 100 99) (Notice 1 ∷ []) ≡ 0 ∷ []
   pub less-owing-to : of3 (sides 100 98) (Notice 1 ∷ []) ≡ 10 ∷ []
@@ -158,6 +163,7 @@ pub record BookLimits : Type 0 where
   pub participant-energy : of3 opened (Energy 1 2 0 1 1 ∷ Energy 1 3 0 1 1 ∷ []) ≡ 0 ∷ 12 ∷ []
   pub participant-amount : of3 opened (Amount 1 2 0 0 1 ∷ Amount 1 3 0 0 1 ∷ []) ≡ 0 ∷ 12 ∷ []
   pub participant-receipt : of3 noticeA (Receipt 7 2 1 ∷ Receipt 7 3 1 ∷ []) ≡ 0 ∷ 12 ∷ []
+  pub participant-purse : of3 [] (Purse 2 1 ∷ Purse 3 1 ∷ []) ≡ 0 ∷ 12 ∷ []
   -- 13: what is payable and not yet received, and arrears once settled
   pub payable : of3 noticeA (Receipt 7 0 600 ∷ Receipt 7 0 601 ∷ []) ≡ 0 ∷ 13 ∷ []
   pub payable-left : of3 (noticeA ++ (Receipt 7 0 300 ∷ [])) (Receipt 7 0 300 ∷ Receipt 7 0 301 ∷ []) ≡ 0 ∷ 13 ∷ []
@@ -166,6 +172,10 @@ pub record BookLimits : Type 0 where
   pub nothing-payable : of3 noticeA (Receipt 7 1 1 ∷ []) ≡ 13 ∷ []
   -- 14: a cent of earlier arrears
   pub earlier-arrears : (of3 (settledWith 100) (Receipt 2 0 1 ∷ []) ≡ 0 ∷ []) × (of3 (settledWith 99) (Receipt 2 0 1 ∷ []) ≡ 14 ∷ [])
+  -- 15: each purse by itself, as it stands; what was drawn makes room again
+  pub full-purse : of3 (Purse 0 9_999_999_999_999 ∷ []) (Purse 0 1 ∷ Purse 0 2 ∷ Purse 1 10_000_000_000_000 ∷ []) ≡ 0 ∷ 15 ∷ 0 ∷ []
+  pub past-purse : of3 (Purse 0 10_000_000_000_000 ∷ []) (Purse 0 1 ∷ []) ≡ 15 ∷ []
+  pub drawn-purse : of3 ((Purse 0 10_000_000_000_000 ∷ []) ++ hundred 1 ++ (Settle 1 ∷ [])) (Purse 0 100 ∷ Purse 0 101 ∷ []) ≡ 0 ∷ 15 ∷ []
 
 pub record Limits : Type 0 where
   pub fields : FieldLimits

@@ -7,7 +7,7 @@ use mathlib.Core.List.{List, [], _∷_, _++_}
 use lib.Dec.{eqb}
 use lib.ListN.{replicate}
 use Rattle.exact.specs.Rows.{at, sum, table}
-use Rattle.book.specs.rules.State.{State, heldIn}
+use Rattle.book.specs.rules.State.{State, heldBy}
 use Rattle.book.specs.rules.Makings.{made, separate}
 use Rattle.book.specs.rules.Step.{Outcome, step}
 use Rattle.book.specs.declared.makings.Making.{Making}
@@ -26,7 +26,7 @@ abbrev pub line : ℕ → Outcome → Line
 line n o = record {
   answer = o .answer;
   paid = cond (eqb (o .answer) 0) (sum (at (o .words)) n) 0;
-  held = heldIn n (o .state .periods);
+  held = heldBy (o .state);
   rounds = o .rounds;
   words = o .words;
 }

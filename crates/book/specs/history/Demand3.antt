@@ -1,4 +1,4 @@
--- Demand 3: one claim about a whole list of entries, from a book just made (01, The list of demand 3).
+-- Demand 3: one claim about a whole list of entries, from a book just made (01, The list of demand 3; 02, c).
 use Prim.Native.Nat.{ℕ, _+_, _-_, _*_, _≤_, _<_}
 use mathlib.Core.Path.{_≡_}
 use mathlib.Core.Bool.{true, cond}
@@ -8,13 +8,14 @@ use lib.Dec.{eqb}
 use Rattle.exact.specs.Rows.{sum}
 use Rattle.settlement.specs.Month.{tiers}
 use Rattle.settlement.specs.Late.{fill, tiersOf, shortage}
-use Rattle.book.specs.rules.Kinds.{names, isReceipt}
+use Rattle.book.specs.rules.Kinds.{periodOf, names, isReceipt, isSettle}
 use Rattle.book.specs.rules.State.{pack, centsHeld, numbersIn}
 use Rattle.book.specs.rules.Makings.{made}
 use Rattle.book.specs.rules.Refusals.{Input}
 use Rattle.book.specs.rules.Step.{reply}
 use Rattle.book.specs.rules.Valid.{All, Valid}
-use Rattle.book.specs.history.Log.{Log, Account, account, moneyReceived, moneyPaid, retention, payable, fullClaim, setOff, claim, arrearsAtSettlement, arrears, received, unpaidClaims, heldMoney}
+use Rattle.book.specs.history.Log.{Log, Account, moneyReceived, moneyPaid, retention, payable, fullClaim, setOff, claim, arrearsAtSettlement, arrears, received, unpaidClaims, heldMoney, ledger, draws}
+use Rattle.book.specs.history.Log as history
 use Rattle.book.specs.declared.makings.Making.{Making}
 use Rattle.book.specs.declared.Book.{Book}
 
@@ -48,20 +49,31 @@ abbrev pub Rising : List ℕ → Type 0
 Rising [] = Unit {0}
 Rising (k ∷ l) = All (λ j. k < j) l × Rising l
 
--- money held, over the periods of these numbers
-unfoldable pub moneyHeld : ℕ → Log → List ℕ → ℕ
-moneyHeld n log [] = 0
-moneyHeld n log (k ∷ l) = heldMoney n (account k log) + moneyHeld n log l
-
--- a period is opened by an open entry that names it, and settled by a settle entry
-abbrev pub WasOpened : ℕ → Log → Type 0
-WasOpened k log = 0 < account k log .openings
-
-abbrev pub WasSettled : ℕ → Log → Type 0
-WasSettled k log = 0 < account k log .settlements
-
 -- n participants; `retained a i` is A_i of the period with account a, and how it was reckoned is not looked at
 module _ (n : ℕ) (retained : Account → ℕ → ℕ) where
+  -- the account of period k, and the purse of i, by the log
+  abbrev account : ℕ → Log → Account
+  account = history.account n retained
+
+  abbrev purse : ℕ → Log → ℕ
+  purse = history.purse n retained
+
+  -- held money of the periods of these numbers
+  unfoldable pub heldOver : Log → List ℕ → ℕ
+  heldOver log [] = 0
+  heldOver log (k ∷ l) = heldMoney n (account k log) + heldOver log l
+
+  -- money held: that of the periods of these numbers, and the purses
+  abbrev pub moneyHeld : Log → List ℕ → ℕ
+  moneyHeld log l = heldOver log l + sum (λ i. purse i log) n
+
+  -- a period is opened by an open entry that names it, and settled by a settle entry
+  abbrev pub WasOpened : ℕ → Log → Type 0
+  WasOpened k log = 0 < account k log .openings
+
+  abbrev pub WasSettled : ℕ → Log → Type 0
+  WasSettled k log = 0 < account k log .settlements
+
   abbrev pub WithoutArrears : ℕ → Log → Type 0
   WithoutArrears k log = (i : ℕ) → i < n → arrears n retained (account k log) i ≡ 0
 
@@ -82,6 +94,17 @@ module _ (n : ℕ) (retained : Account → ℕ → ℕ) where
       ((k : ℕ) → names k (x .entry) ≡ true → isReceipt (x .entry) ≡ true → WasSettled k log → TiersInOrder (account k log) (account k (x ∷ log)))
       × LateInOrder log
 
+  -- every settle entry drew from each purse no more than was there, so that no purse is cut off at 0, and with the receipts
+  -- before it no more than is payable, so that what was unpaid is not cut off either
+  abbrev pub DrawnWithin : Log → Type 0
+  DrawnWithin [] = Unit {0}
+  DrawnWithin (x ∷ log) =
+      (isSettle (x .entry) ≡ true → (i : ℕ) → i < n
+      → let k = periodOf (x .entry) in
+      let drawn = draws n retained (ledger n retained log) k i in
+      (drawn ≤ purse i log) × (account k log .before i + drawn ≤ payable n retained (account k log) i))
+      × DrawnWithin log
+
   -- no difference above is cut off at 0, for participant i of a settled period
   pub record NothingCutOff (a : Account) (i : ℕ) : Type 0 where
     pub received-le : a .before i ≤ payable n retained a i
@@ -93,10 +116,10 @@ module _ (n : ℕ) (retained : Account → ℕ → ℕ) where
   pub record Clauses (h : History) : Type 0 where
     -- the book is one that the program's functions take
     pub valid : Valid (h .book)
-    -- money received is money paid and money held; the book's cents held are the money held
-    pub cents : moneyReceived (h .log) ≡ moneyPaid n (h .log) + moneyHeld n (h .log) (numbersIn (h .book))
-    pub listed : centsHeld (h .book) ≡ moneyHeld n (h .log) (numbersIn (h .book))
-    -- a settled period in the book: unpaid claims are arrears and held money, and held money is within its bound
+    -- money received is money paid and money held, in periods and purses; the book's cents held are the money held
+    pub cents : moneyReceived (h .log) ≡ moneyPaid n (h .log) + moneyHeld (h .log) (numbersIn (h .book))
+    pub listed : centsHeld (h .book) ≡ moneyHeld (h .log) (numbersIn (h .book))
+    -- a settled period in the book: unpaid claims are arrears and its held money, and that is within its bound
     pub claims : (k : ℕ) → Has k (numbersIn (h .book)) → WasSettled k (h .log)
         → unpaidClaims n retained (account k (h .log)) ≡ sum (arrears n retained (account k (h .log))) n + heldMoney n (account k (h .log))
     pub held-bound : (k : ℕ) → Has k (numbersIn (h .book)) → WasSettled k (h .log) → heldMoney n (account k (h .log)) ≤ 2 * (n - 1)
@@ -110,6 +133,8 @@ module _ (n : ℕ) (retained : Account → ℕ → ℕ) where
     pub once : (k : ℕ) → (account k (h .log) .openings ≤ 1) × (account k (h .log) .settlements ≤ 1)
     -- no late receipt paid a later tier while a claim in an earlier one stayed unpaid
     pub order : LateInOrder (h .log)
+    -- no purse is cut off at 0: what was drawn is within the purse, and within what was unpaid
+    pub drawn-within : DrawnWithin (h .log)
     -- no difference is cut off, also not in periods that have left
     pub nothing-cut-off : (k : ℕ) → WasSettled k (h .log) → (i : ℕ) → i < n → NothingCutOff (account k (h .log)) i
     pub paid-within : (k : ℕ) → sum (account k (h .log) .paid) n ≤ sum (received n (account k (h .log))) n

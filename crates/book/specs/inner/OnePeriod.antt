@@ -12,7 +12,7 @@ use Rattle.settlement.specs.declared.groups.Grouping.{Grouping}
 use Rattle.book.specs.Checks.{refusal}
 use Rattle.book.specs.rules.Periods as period
 use Rattle.book.specs.layouts.Allowed.{allowed}
-use Rattle.book.specs.rules.Kinds.{isOpen, receiptCents}
+use Rattle.book.specs.rules.Kinds.{isOpen, isPurse, receiptCents}
 use Rattle.book.specs.rules.Refusals.{receiptChecks, periodChecks}
 use Rattle.book.specs.rules.Step.{payoutWords}
 use Rattle.book.specs.rules.Valid.{InBook}
@@ -74,6 +74,7 @@ pub record Affects (n : ℕ) (grouping : Grouping) (e : Entry) (p : Period) (hel
   pub many : n ≤ places
   pub enough : n ≤ length words
   pub not-open : isOpen e ≡ false
+  pub not-purse : isPurse e ≡ false
   pub fields : allowed e ≡ true
   pub grouped : groupingAllowed n grouping ≡ true
   pub in-book : InBook n grouping p

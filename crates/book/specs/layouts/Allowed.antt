@@ -1,4 +1,4 @@
--- The values that fields may have (01, Entries), for reader, writer and book.
+-- The values that fields may have (01, Entries; 02, c), for reader, writer and book.
 use Prim.Native.Nat.{ℕ}
 use mathlib.Core.Bool.{Bool, true, false, cond, not}
 use mathlib.Core.List.{List, [], _∷_}
@@ -9,7 +9,7 @@ use Rattle.settlement.specs.Month.{tiers}
 use Rattle.book.specs.layouts.Entries.{kindOf, field}
 use Rattle.book.specs.declared.entries.Entry.{Entry}
 
--- the most cents of an amount or a receipt
+-- the most cents of an amount, a receipt or a purse entry
 abbrev pub centsLimit : ℕ
 centsLimit = 10_000_000_000_000
 
@@ -28,6 +28,7 @@ energyOutside participant side quantity price = leb places participant ∷ ltb 1
 abbrev pub amountOutside : (participant side tier cents : ℕ) → List Bool
 amountOutside participant side tier cents = leb places participant ∷ ltb 1 side ∷ tierOutside side tier ∷ centsOutside cents
 
+-- a receipt, and a purse entry, whose cents are those of a receipt
 abbrev pub receiptOutside : (participant cents : ℕ) → List Bool
 receiptOutside participant cents = leb places participant ∷ centsOutside cents
 
@@ -35,7 +36,8 @@ abbrev pub outside : Entry → List Bool
 outside e =
     cond (eqb (kindOf e) 2) (energyOutside (field e 1) (field e 2) (field e 3) (field e 4))
     (cond (eqb (kindOf e) 3) (amountOutside (field e 1) (field e 2) (field e 3) (field e 4))
-    (cond (eqb (kindOf e) 5) (receiptOutside (field e 1) (field e 2)) []))
+    (cond (eqb (kindOf e) 5) (receiptOutside (field e 1) (field e 2))
+    (cond (eqb (kindOf e) 7) (receiptOutside (field e 0) (field e 1)) [])))
 
 abbrev pub none : List Bool → Bool
 none [] = true

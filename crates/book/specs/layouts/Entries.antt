@@ -1,4 +1,4 @@
--- The kinds of entry, their fields and their layouts (01, Entries).
+-- The kinds of entry, their fields and their layouts (01, Entries; 02, c).
 use Prim.Native.Nat.{ℕ, _+_}
 use mathlib.Core.Bool.{Bool, true, cond}
 use mathlib.Core.List.{List, [], _∷_}
@@ -6,11 +6,11 @@ use lib.Dec.{eqb, leb}
 use lib.ListN.{getD, length}
 use Rattle.book.specs.layouts.Fields.{fieldBytes}
 use Rattle.book.specs.declared.entries.Entry.{Entry}
-use Rattle.book.specs.declared.entries.Entry.the-variants.{Open, Energy, Amount, Notice, Receipt, Settle}
+use Rattle.book.specs.declared.entries.Entry.the-variants.{Open, Energy, Amount, Notice, Receipt, Settle, Purse}
 
 -- the lengths of the bodies, by kind; there is no kind 0
 abbrev pub bodyLengths : List ℕ
-bodyLengths = 0 ∷ 4 ∷ 14 ∷ 15 ∷ 4 ∷ 13 ∷ 4 ∷ []
+bodyLengths = 0 ∷ 4 ∷ 14 ∷ 15 ∷ 4 ∷ 13 ∷ 4 ∷ 9 ∷ []
 
 abbrev pub bodyLength : ℕ → ℕ
 bodyLength kind = getD bodyLengths kind 0
@@ -28,6 +28,7 @@ layouts =
     ∷ (4 ∷ [])
     ∷ (4 ∷ 1 ∷ 8 ∷ [])
     ∷ (4 ∷ [])
+    ∷ (1 ∷ 8 ∷ [])
     ∷ []
 
 abbrev pub layout : ℕ → List ℕ
@@ -40,6 +41,7 @@ kindOf (Amount period participant side tier cents) = 3
 kindOf (Notice period) = 4
 kindOf (Receipt period participant cents) = 5
 kindOf (Settle period) = 6
+kindOf (Purse participant cents) = 7
 
 -- the fields of an entry, in the order of its layout
 abbrev pub fieldsOf : Entry → List ℕ
@@ -49,6 +51,7 @@ fieldsOf (Amount period participant side tier cents) = period ∷ participant �
 fieldsOf (Notice period) = period ∷ []
 fieldsOf (Receipt period participant cents) = period ∷ participant ∷ cents ∷ []
 fieldsOf (Settle period) = period ∷ []
+fieldsOf (Purse participant cents) = participant ∷ cents ∷ []
 
 -- one of them, counted from 0
 abbrev pub field : Entry → ℕ → ℕ
@@ -62,7 +65,8 @@ entryOf kind f =
     (cond (eqb kind 3) (Amount (getD f 0 0) (getD f 1 0) (getD f 2 0) (getD f 3 0) (getD f 4 0))
     (cond (eqb kind 4) (Notice (getD f 0 0))
     (cond (eqb kind 5) (Receipt (getD f 0 0) (getD f 1 0) (getD f 2 0))
-    (Settle (getD f 0 0))))))
+    (cond (eqb kind 6) (Settle (getD f 0 0))
+    (Purse (getD f 0 0) (getD f 1 0)))))))
 
 -- an entry is one byte of kind, then its body
 unfoldable pub bytesOf : Entry → List ℕ

@@ -1,9 +1,9 @@
--- How the book's answers read: 01's number for each, and its values for the answer to an entry.
+-- How the book's answers read: 01's and 02's number for each, and the values of the answer to an entry.
 use Prim.Native.Nat.{ℕ}
 use mathlib.Core.List.{List}
 use Rattle.book.specs.rules.Step.{Reply}
 use Rattle.book.specs.declared.answers.Answer.{Answer}
-use Rattle.book.specs.declared.answers.Answer.the-variants.{Accepted, Outside, NoParticipants, FewWords, NotAbove, Full, NotInBook, WrongStage, Unequal, PastBound, NotAParticipant, TooMuch, EarlierArrears}
+use Rattle.book.specs.declared.answers.Answer.the-variants.{Accepted, Outside, NoParticipants, FewWords, NotAbove, Full, NotInBook, WrongStage, Unequal, PastBound, NotAParticipant, TooMuch, EarlierArrears, PursePastBound}
 use Rattle.book.specs.declared.steps.Applied.{Applied}
 
 abbrev pub numberOf : Answer → ℕ
@@ -20,6 +20,7 @@ numberOf PastBound = 11
 numberOf NotAParticipant = 12
 numberOf TooMuch = 13
 numberOf EarlierArrears = 14
+numberOf PursePastBound = 15
 
 -- the answer to an entry, with the payout words as it leaves them
 abbrev pub replied : Applied → List ℕ → Reply

@@ -33,9 +33,9 @@ groupingOf m = record { groups = cells (at (m .grouping .groups)) (m .n); reserv
 abbrev pub noGrouping : Grouping
 noGrouping = record { groups = zeros places; reserves = zeros groupCount }
 
--- a book without periods
+-- a book without periods, its purses empty
 abbrev pub emptyState : ℕ → Grouping → State
-emptyState n grouping = record { n = n; grouping = grouping; highest = 0; periods = [] }
+emptyState n grouping = record { n = n; grouping = grouping; highest = 0; periods = []; purses = zeros places }
 
 pub record Made : Type 0 where
   pub answer : ℕ

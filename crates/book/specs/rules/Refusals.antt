@@ -1,4 +1,4 @@
--- The book's refusals, 3 to 14, in 01's order (01, Refused, by whoever causes it).
+-- The book's refusals, 3 to 15, in 01's order (01, Refused, by whoever causes it; 02, c).
 use Prim.Native.Nat.{ℕ, _+_, _-_}
 use mathlib.Core.Bool.{Bool, false, cond, not}
 use mathlib.Core.List.{List, [], _∷_}
@@ -8,9 +8,10 @@ use Rattle.exact.specs.Rows.{at}
 use Rattle.settlement.specs.Month.{sideLimit}
 use Rattle.book.specs.Checks.{Check, on}
 use Rattle.book.specs.layouts.Allowed.{allowed}
-use Rattle.book.specs.rules.Kinds.{periodOf, isOpen, isAmount, isNotice, isReceipt, isSettle, addition, payerOf, receiptCents}
+use Rattle.book.specs.rules.Kinds.{periodOf, isOpen, isPurse, isAmount, isNotice, isReceipt, isSettle, addition, payerOf, receiptCents, purseOf, purseCents}
 use Rattle.book.specs.rules.Periods.{isOpened, isNoticed, isSettled, sideTotal}
 use Rattle.book.specs.rules.State.{State, mostPeriods, find, periodAt, earlierArrears}
+use Rattle.book.specs.rules.Purses.{purseLimit}
 use Rattle.book.specs.declared.entries.Entry.{Entry}
 use Rattle.book.specs.declared.kinds.Addition.{Addition}
 use Rattle.book.specs.declared.Stage.{Stage}
@@ -69,6 +70,10 @@ periodChecks n barred e p =
 abbrev pub openChecks : State → ℕ → List Check
 openChecks s k = on (leb k (s .highest)) 6 ∷ on (leb mostPeriods (length (s .periods))) 7 ∷ []
 
+-- kind 7: 12, 15
+abbrev pub purseChecks : State → ℕ → ℕ → List Check
+purseChecks s i cents = on (leb (s .n) i) 12 ∷ on (ltb purseLimit (at (s .purses) i + cents)) 15 ∷ []
+
 -- the other kinds: 8, then those of the period
 abbrev pub namedChecks : State → Entry → List Check
 namedChecks s e =
@@ -76,7 +81,9 @@ namedChecks s e =
     ∷ periodChecks (s .n) (barring e (s .periods)) e (periodAt (periodOf e) (s .periods))
 
 abbrev pub kindChecks : State → Entry → List Check
-kindChecks s e = cond (isOpen e) (openChecks s (periodOf e)) (namedChecks s e)
+kindChecks s e =
+    cond (isOpen e) (openChecks s (periodOf e))
+    (cond (isPurse e) (purseChecks s (purseOf e) (purseCents e)) (namedChecks s e))
 
 -- the book checks 4, 5, 3, then those of the kind
 abbrev pub checks : State → Input → List Check

@@ -1,10 +1,10 @@
--- The book as 01 has it, a list of periods, and the record that the program keeps of it.
+-- The book as 01 and 02 have it, a list of periods and a row of purses, and the record that the program keeps of it.
 use Prim.Native.Nat.{ℕ, suc, _+_, _-_}
 use mathlib.Core.Bool.{Bool, true, false, cond}
 use mathlib.Core.List.{List, [], _∷_, _++_}
 use lib.Dec.{eqb, ltb}
 use lib.ListN.{getD, length, take, drop, replicate}
-use Rattle.exact.specs.Rows.{at}
+use Rattle.exact.specs.Rows.{at, sum}
 use Rattle.settlement.specs.declared.groups.Grouping.{Grouping}
 use Rattle.book.specs.rules.Periods.{isSettled, fresh, holds}
 use Rattle.book.specs.declared.Stage.the-variants.{Opened}
@@ -15,22 +15,27 @@ use Rattle.book.specs.declared.Book.{Book}
 abbrev pub mostPeriods : ℕ
 mostPeriods = 12
 
--- n participants, their groups with the groups' reserves, the highest period ever opened, and the periods in the book, oldest
--- first
+-- n participants, their groups with the groups' reserves, the highest period ever opened, the periods in the book, oldest
+-- first, and each participant's purse (02, c)
 pub record State : Type 0 where
   pub n : ℕ
   pub grouping : Grouping
   pub highest : ℕ
   pub periods : List Period
+  pub purses : List ℕ
 
--- the cents that the book holds, over its periods
+-- the cents held over periods
 unfoldable pub heldIn : ℕ → List Period → ℕ
 heldIn n [] = 0
 heldIn n (p ∷ ps) = holds n p + heldIn n ps
 
+-- the cents that the book holds: over its periods, and in its purses (02, c)
+unfoldable pub heldBy : State → ℕ
+heldBy s = heldIn (s .n) (s .periods) + sum (at (s .purses)) (s .n)
+
 -- the state that a record stands for ..
 abbrev pub view : Book → State
-view b = record { n = b .n; grouping = b .grouping; highest = b .highest; periods = take (b .count) (b .periods) }
+view b = record { n = b .n; grouping = b .grouping; highest = b .highest; periods = take (b .count) (b .periods); purses = b .purses }
 
 -- .. and the record of a state: nothing in it is free
 unfoldable pub pack : State → Book
@@ -39,8 +44,9 @@ pack s = record {
   grouping = s .grouping;
   highest = s .highest;
   count = length (s .periods);
-  held = heldIn (s .n) (s .periods);
+  held = heldBy s;
   periods = s .periods ++ replicate (mostPeriods - length (s .periods)) (fresh 0);
+  purses = s .purses;
 }
 
 -- the cents held, which the book keeps and the listing prints
@@ -88,7 +94,10 @@ earlierArrears i k [] = false
 earlierArrears i k (p ∷ ps) = cond (arrearsBefore i k p) true (earlierArrears i k ps)
 
 abbrev pub withPeriods : State → List Period → State
-withPeriods s ps = record { n = s .n; grouping = s .grouping; highest = s .highest; periods = ps }
+withPeriods s ps = record { n = s .n; grouping = s .grouping; highest = s .highest; periods = ps; purses = s .purses }
+
+abbrev pub withPurses : State → List ℕ → State
+withPurses s purses = record { n = s .n; grouping = s .grouping; highest = s .highest; periods = s .periods; purses = purses }
 
 -- the period at place j replaced by another
 unfoldable pub replaced : State → ℕ → Period → State
@@ -100,4 +109,4 @@ removed s j = withPeriods s (take j (s .periods) ++ drop (suc j) (s .periods))
 
 -- one more period, the last, whose number is then the highest
 unfoldable pub added : State → Period → State
-added s p = record { n = s .n; grouping = s .grouping; highest = p .number; periods = s .periods ++ (p ∷ []) }
+added s p = record { n = s .n; grouping = s .grouping; highest = p .number; periods = s .periods ++ (p ∷ []); purses = s .purses }

@@ -5,9 +5,10 @@ use mathlib.Core.List.{List}
 use lib.Dec.{eqb}
 use Rattle.exact.specs.Rows.{places, at, sum, filled}
 use Rattle.book.specs.Checks.{refusal}
-use Rattle.book.specs.rules.Kinds.{periodOf, isOpen}
-use Rattle.book.specs.rules.Periods.{fresh, Change, changed, leaves, zeros}
-use Rattle.book.specs.rules.State.{State, view, pack, find, periodAt, replaced, removed, added}
+use Rattle.book.specs.rules.Kinds.{periodOf, isOpen, isPurse, purseOf, purseCents}
+use Rattle.book.specs.rules.Periods.{fresh, Change, changed, leaves, zeros, raised}
+use Rattle.book.specs.rules.State.{State, view, pack, find, periodAt, replaced, removed, added, withPurses}
+use Rattle.book.specs.rules.Purses.{afterDrawing}
 use Rattle.book.specs.rules.Refusals.{Input, checks}
 use Rattle.book.specs.declared.Period.{Period}
 use Rattle.book.specs.declared.Book.{Book}
@@ -30,6 +31,15 @@ payoutWords n pays words = filled (at pays) n words
 abbrev pub opened : State → ℕ → List ℕ → Outcome
 opened s k words = record { answer = 0; rounds = 0; state = added s (fresh k); words = payoutWords (s .n) (zeros places) words }
 
+-- a purse entry: its cents are added to the purse of i, and nothing is paid (02, c)
+abbrev pub purseRaised : State → ℕ → ℕ → List ℕ → Outcome
+purseRaised s i cents words = record {
+  answer = 0;
+  rounds = 0;
+  state = withPurses s (raised (s .purses) i cents);
+  words = payoutWords (s .n) (zeros places) words;
+}
+
 -- an entry that changes the period at place j
 abbrev pub moved : State → ℕ → Change → List ℕ → Outcome
 moved s j c words = record {
@@ -39,11 +49,16 @@ moved s j c words = record {
   words = payoutWords (s .n) (c .pays) words;
 }
 
+-- an entry that names a period in the book, and what it makes of that period
+unfoldable pub acted : State → Input → Outcome
+acted s x = moved s (find (periodOf (x .entry)) (s .periods)) (changed (s .n) (s .grouping) (x .entry) (periodAt (periodOf (x .entry)) (s .periods))) (x .words)
+
+-- an entry that names a period finds the book with what it draws from the purses moved into that period
 unfoldable pub accepted : State → Input → Outcome
 accepted s x =
-    cond (isOpen (x .entry))
-    (opened s (periodOf (x .entry)) (x .words))
-    (moved s (find (periodOf (x .entry)) (s .periods)) (changed (s .n) (s .grouping) (x .entry) (periodAt (periodOf (x .entry)) (s .periods))) (x .words))
+    cond (isOpen (x .entry)) (opened s (periodOf (x .entry)) (x .words))
+    (cond (isPurse (x .entry)) (purseRaised s (purseOf (x .entry)) (purseCents (x .entry)) (x .words))
+    (acted (afterDrawing s (x .entry)) x))
 
 -- a refusal changes nothing
 abbrev pub refused : State → Input → ℕ → Outcome

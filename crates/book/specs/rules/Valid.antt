@@ -12,6 +12,7 @@ use Rattle.settlement.specs.declared.groups.Grouping.{Grouping}
 use Rattle.book.specs.rules.Kinds.{isSettle}
 use Rattle.book.specs.rules.Periods.{monthOf, sideTotal, leaves}
 use Rattle.book.specs.rules.State.{State, view, pack, mostPeriods}
+use Rattle.book.specs.rules.Purses.{purseLimit}
 use Rattle.book.specs.rules.Makings.{made}
 use Rattle.book.specs.rules.Refusals.{Input}
 use Rattle.book.specs.rules.Step.{reply}
@@ -76,6 +77,8 @@ pub record SoundState (s : State) : Type 0 where
   pub few : length (s .periods) ≤ mostPeriods
   pub grouped : groupingAllowed (s .n) (s .grouping) ≡ true
   pub each : All (InBook (s .n) (s .grouping)) (s .periods)
+  pub purses-size : length (s .purses) ≡ places
+  pub purse-le : (i : ℕ) → i < s .n → at (s .purses) i ≤ purseLimit
 
 -- the record is that of its state, and that is fit
 pub record Valid (b : Book) : Type 0 where

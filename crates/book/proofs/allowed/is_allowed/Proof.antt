@@ -1,5 +1,6 @@
+use Prim.Native.Nat.{ℕ}
 use mathlib.Core.Path.{sym, ap, _∙_}
-use mathlib.Core.List.{[], _∷_}
+use mathlib.Core.List.{List, [], _∷_}
 use borrow.Author.Needs.{needs}
 use Rattle.book.specs.layouts.Allowed.{allowed}
 use Rattle.book.proofs.rules.KindLaws.{not-kind}
@@ -24,6 +25,12 @@ enum-known-e-3 c = search needs
 receipt-allowed-requires : tie.Need-receipt-allowed-requires
 receipt-allowed-requires c κs = search needs
 
+enum-known-e-4 : tie.Need-enum-known-e-4
+enum-known-e-4 c = search needs
+
+receipt-allowed-requires-2 : tie.Need-receipt-allowed-requires-2
+receipt-allowed-requires-2 c κs = search needs
+
 returns : tie.Need-returns
 returns c = c .energy-allowed .ensures ∙ sym (ap allowed (c .before .before .e .given .1))
 
@@ -34,10 +41,14 @@ returns-3 : tie.Need-returns-3
 returns-3 c = c .receipt-allowed .ensures ∙ sym (ap allowed (c .before .before .e3 .given .1))
 
 returns-4 : tie.Need-returns-4
-returns-4 c =
+returns-4 c = c .receipt-allowed2 .ensures ∙ sym (ap allowed (c .before .before .e4 .given .1))
+
+returns-5 : tie.Need-returns-5
+returns-5 c =
     let e = c .before .args .e in
-    let left = c .match .keys4 in
-    rw (not-kind (1 ∷ 2 ∷ 4 ∷ []) 1 e (tt {0}) left, not-kind (1 ∷ 2 ∷ 4 ∷ []) 2 e (tt {0}) left, not-kind (1 ∷ 2 ∷ 4 ∷ []) 4 e (tt {0}) left)
+    let own : List ℕ = 1 ∷ 2 ∷ 4 ∷ 6 ∷ [] in
+    let left = c .match .keys5 in
+    rw (not-kind own 1 e (tt {0}) left, not-kind own 2 e (tt {0}) left, not-kind own 4 e (tt {0}) left, not-kind own 6 e (tt {0}) left)
 
 pub is-allowed-spec : {M : Type 1} → statement M
 is-allowed-spec =
@@ -49,7 +60,10 @@ is-allowed-spec =
     amount-allowed-requires
     enum-known-e-3
     receipt-allowed-requires
+    enum-known-e-4
+    receipt-allowed-requires-2
     returns
     returns-2
     returns-3
-    returns-4)
+    returns-4
+    returns-5)

@@ -23,7 +23,7 @@ passed c = sym (c .before .before .period-answer .ensures) ∙ eqb-true _ _ (sym
 paid-within : (c : tie.Else1) → let s = c .before .before .before .before .args in sum (at (changed (s .n) (s .grouping) (s .e) (s .p) .pays)) (s .n) ≤ s .held + receiptCents (s .e)
 paid-within c =
     let s = c .before .before .before .before in
-    let d = entry-changes (s .args .n) (s .args .p) (s .pre .in-book) (s .args .e) (s .args .barred) (s .pre .not-open) (s .pre .fields) (passed c) in
+    let d = entry-changes (s .args .n) (s .args .p) (s .pre .in-book) (s .args .e) (s .args .barred) (s .pre .not-open) (s .pre .not-purse) (s .pre .fields) (passed c) in
     omega (arith, change-cents (s .args .n) (s .args .p) (s .pre .in-book .sound) (receiptCents (s .args .e)) _ d, s .pre .within)
 
 period-answer-requires : tie.Need-period-answer-requires

@@ -1,4 +1,6 @@
-use Rattle.book.specs.rules.State.{pack, heldIn}
+use Rattle.book.specs.rules.Periods.{zeros}
+use Rattle.book.specs.rules.State.{pack, heldIn, heldBy}
+use Rattle.book.proofs.rules.ChangeLaws.{no-pays}
 use borrow.Author.Needs.{needs}
 use Rattle.book.proofs.makings.empty_book.Statement.{statement}
 use Rattle.book.proofs.makings.empty_book.Tie as tie
@@ -7,8 +9,8 @@ fresh-period-requires : tie.Need-fresh-period-requires
 fresh-period-requires c κs = search needs
 
 returns : tie.Need-returns
-unfolding pack heldIn
-returns c = rw (c .fresh-period .ensures)
+unfolding pack heldIn heldBy zeros
+returns c = rw (c .fresh-period .ensures, no-pays (c .before .args .n))
 
 pub empty-book-spec : {M : Type 1} → statement M
 empty-book-spec = tie.close (tie.spec fresh-period-requires returns)

@@ -1,9 +1,9 @@
-use Rattle.book.specs.rules.State.{view}
+use Rattle.book.specs.rules.State.{view, heldBy, added}
 use mathlib.Core.List.{[], _∷_}
 use Prim.Native.Nat.{_-_}
 use native.Mathlib.Omega.{arith}
 use Rattle.book.proofs.records.Packing.{count-is, count-few, pushed}
-use Rattle.book.proofs.history.Invariant.{held-join}
+use Rattle.book.proofs.rules.ListLaws.{held-join}
 use Rattle.book.proofs.places.with_period.Statement.{statement}
 use Rattle.book.proofs.places.with_period.Tie as tie
 
@@ -17,6 +17,7 @@ element-set-from-p : tie.Need-element-set-from-p
 element-set-from-p c = omega (arith, count-is (c .pre .0), c .pre .1)
 
 returns : tie.Need-returns
+unfolding heldBy added
 returns c =
     let e = held-join (c .args .b .n) (view (c .args .b) .periods) (c .args .p ∷ []) in
     pushed (c .pre .0) _ (omega (arith, count-is (c .pre .0), c .pre .1)) (omega (arith, e, c .pre .2))

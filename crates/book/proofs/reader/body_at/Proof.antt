@@ -7,7 +7,7 @@ use Rattle.book.proofs.layouts.EntryLaws.{known}
 use Rattle.book.proofs.reader.body_at.Statement.{statement}
 use Rattle.book.proofs.reader.body_at.Tie as tie
 
-last : (c : tie.At-match-rest) → c .before .before .args .kind ≡ 6
+last : (c : tie.At-match-rest) → c .before .before .args .kind ≡ 7
 last c = omega (arith, known (c .before .before .args .kind) (c .before .before .pre .0))
 
 word-at-requires : tie.Need-word-at-requires
@@ -26,7 +26,10 @@ receipt-at-requires : tie.Need-receipt-at-requires
 receipt-at-requires c κs = rw (c .match .keys5) at (c .before .before .pre .1)
 
 word-at-requires-3 : tie.Need-word-at-requires-3
-word-at-requires-3 c κs = rw (last c) at (c .before .before .pre .1)
+word-at-requires-3 c κs = rw (c .match .keys6) at (c .before .before .pre .1)
+
+purse-at-requires : tie.Need-purse-at-requires
+purse-at-requires c κs = rw (last c) at (c .before .before .pre .1)
 
 returns : tie.Need-returns
 unfolding entryOf fieldsAt
@@ -47,7 +50,10 @@ returns-5 c = rw (c .before .match .keys5) (c .receipt-at .ensures)
 
 returns-6 : tie.Need-returns-6
 unfolding entryOf fieldsAt
-returns-6 c = rw (last (c .before)) (ap Settle (c .word-at3 .ensures))
+returns-6 c = rw (c .before .match .keys6) (ap Settle (c .word-at3 .ensures))
+
+returns-7 : tie.Need-returns-7
+returns-7 c = rw (last (c .before)) (c .purse-at .ensures)
 
 pub body-at-spec : {M : Type 1} → statement M
 body-at-spec =
@@ -59,9 +65,11 @@ body-at-spec =
     word-at-requires-2
     receipt-at-requires
     word-at-requires-3
+    purse-at-requires
     returns
     returns-2
     returns-3
     returns-4
     returns-5
-    returns-6)
+    returns-6
+    returns-7)

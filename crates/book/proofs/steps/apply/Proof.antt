@@ -58,16 +58,21 @@ same-length c = search needs
 returns-4 : tie.Need-returns-4
 returns-4 c = search needs
 
-change-named-requires : tie.Need-change-named-requires
-change-named-requires c κs =
-    let s = c .before .before .before .before .before .before .before .before .before .before in (
+is-purse-requires : tie.Need-is-purse-requires
+is-purse-requires c κs = search needs
+
+raise-purse-requires : tie.Need-raise-purse-requires
+raise-purse-requires c κs =
+    let o = c .before .before in
+    let s = o .before .before .before .before .before .before .before .before .before .before in (
       s .pre,
       record {
-        some = omega (arith, c .before .before .before .before .before .before .before .if1 .left);
-        enough = c .before .before .before .before .before .if2 .left;
-        fields = sym (c .before .before .before .before .is-allowed .ensures) ∙ not-false _ (c .before .before .before .if3 .left);
+        some = omega (arith, o .before .before .before .before .before .before .before .if1 .left);
+        enough = o .before .before .before .before .before .if2 .left;
+        fields = sym (o .before .before .before .before .is-allowed .ensures) ∙ not-false _ (o .before .before .before .if3 .left);
       },
-      sym (c .before .before .is-open .ensures) ∙ c .before .if4 .left,
+      sym (o .before .before .is-open .ensures) ∙ o .before .if4 .left,
+      sym (c .before .before .is-purse .ensures) ∙ c .before .if5 .taken,
     )
 
 same-length-2 : tie.Need-same-length-2
@@ -75,6 +80,26 @@ same-length-2 c = search needs
 
 returns-5 : tie.Need-returns-5
 returns-5 c = search needs
+
+change-named-requires : tie.Need-change-named-requires
+change-named-requires c κs =
+    let o = c .before .before in
+    let s = o .before .before .before .before .before .before .before .before .before .before in (
+      s .pre,
+      record {
+        some = omega (arith, o .before .before .before .before .before .before .before .if1 .left);
+        enough = o .before .before .before .before .before .if2 .left;
+        fields = sym (o .before .before .before .before .is-allowed .ensures) ∙ not-false _ (o .before .before .before .if3 .left);
+      },
+      sym (o .before .before .is-open .ensures) ∙ o .before .if4 .left,
+      sym (c .before .before .is-purse .ensures) ∙ c .before .if5 .left,
+    )
+
+same-length-3 : tie.Need-same-length-3
+same-length-3 c = search needs
+
+returns-6 : tie.Need-returns-6
+returns-6 c = search needs
 
 pub apply-spec : {M : Type 1} → statement M
 apply-spec =
@@ -91,6 +116,10 @@ apply-spec =
     open-period-requires
     same-length
     returns-4
-    change-named-requires
+    is-purse-requires
+    raise-purse-requires
     same-length-2
-    returns-5)
+    returns-5
+    change-named-requires
+    same-length-3
+    returns-6)

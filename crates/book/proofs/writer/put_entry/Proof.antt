@@ -40,6 +40,12 @@ enum-known-e-6 c = search needs
 put-head-requires-3 : tie.Need-put-head-requires-3
 put-head-requires-3 c κs = rw (c .before .before .e6 .given .1) at (c .before .before .before .before .before .pre)
 
+enum-known-e-7 : tie.Need-enum-known-e-7
+enum-known-e-7 c = search needs
+
+put-purse-requires : tie.Need-put-purse-requires
+put-purse-requires c κs = rw (c .before .before .e7 .given .1) at (c .before .before .before .before .before .pre)
+
 same-length : tie.Need-same-length
 same-length c = search needs
 
@@ -79,6 +85,12 @@ returns-6 : tie.Need-returns-6
 unfolding bytesOf fieldBytes bytes
 returns-6 c = rw (c .before .before .before .before .before .e6 .given .1) (c .before .before .put-head3 .ensures)
 
+same-length-7 : tie.Need-same-length-7
+same-length-7 c = search needs
+
+returns-7 : tie.Need-returns-7
+returns-7 c = rw (c .before .before .before .before .before .e7 .given .1) (c .before .before .put-purse .ensures)
+
 pub put-entry-spec : {M : Type 1} → statement M
 put-entry-spec =
     tie.close
@@ -95,6 +107,8 @@ put-entry-spec =
     put-receipt-requires
     enum-known-e-6
     put-head-requires-3
+    enum-known-e-7
+    put-purse-requires
     same-length
     returns
     same-length-2
@@ -106,4 +120,6 @@ put-entry-spec =
     same-length-5
     returns-5
     same-length-6
-    returns-6)
+    returns-6
+    same-length-7
+    returns-7)

@@ -1,0 +1,15 @@
+use borrow.Author.Tests.{lt-ltb, le-ltb}
+use Rattle.book.proofs.purses.unless_barred.Statement.{statement}
+use Rattle.book.proofs.purses.unless_barred.Tie as tie
+
+returns : tie.Need-returns
+returns c = rw (c .before .if1 .taken, lt-ltb _ _ (c .if2 .taken))
+
+returns-2 : tie.Need-returns-2
+returns-2 c = rw (c .before .if1 .taken, le-ltb _ _ (c .if2 .left))
+
+returns-3 : tie.Need-returns-3
+returns-3 c = rw (c .if1 .left)
+
+pub unless-barred-spec : {M : Type 1} → statement M
+unless-barred-spec = tie.close (tie.spec returns returns-2 returns-3)
