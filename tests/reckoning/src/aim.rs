@@ -1,10 +1,11 @@
 //! Proposes the next entry for a book, aiming by a copy of it: mostly entries
 //! that fit the book as it stands, so that many months come to settlement.
 
-use crate::book::{Book, Period, Stage, MOST_PERIODS, MOST_TOTAL};
+use crate::book::{Book, MOST_PERIODS, MOST_TOTAL};
 use crate::codec::Entry;
 use crate::energies::{self, Energy};
 use crate::making::Making;
+use crate::period::{Period, Stage};
 use crate::random::Random;
 use std::collections::BTreeSet;
 

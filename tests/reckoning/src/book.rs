@@ -2,30 +2,16 @@
 
 use crate::codec::{Entry, Field, AMOUNT, ENERGY, MOST_CENTS, NOTICE, OPEN, RECEIPT, SETTLE};
 use crate::making::Making;
-use crate::month::{self, Notice, Sums};
+use crate::month;
+use crate::period::{Period, Stage};
 use crate::refusals::*;
-use crate::retention::{retention, Retention};
+use crate::ways::{self, Ways};
 use std::collections::BTreeMap;
 
 pub const MOST_PARTICIPANTS: u64 = 64;
 pub const MOST_PERIODS: usize = 12;
 /// Each side's total over a period is at most this.
 pub const MOST_TOTAL: u128 = MOST_CENTS as u128;
-
-#[derive(Clone, Debug)]
-pub enum Stage {
-    BeforeNotice,
-    Noticed(Notice),
-    Settled { claim: Vec<u128>, arrears: Vec<u128> },
-}
-
-#[derive(Clone, Debug)]
-pub struct Period {
-    pub sums: Sums,
-    pub stage: Stage,
-    pub received: Vec<u128>,
-    pub paid: Vec<u128>,
-}
 
 /// The answer to an entry: 0 or the refusal's number, and the rounds run.
 #[derive(Clone, Copy, Debug, PartialEq, Eq)]
@@ -39,85 +25,11 @@ pub struct Book {
     pub n: usize,
     /// What the book was made with.
     pub making: Making,
-    /// How it reckons A, the cents that it adds and those that 11 tests; only wrong versions, which
-    /// tests try, have other ways.
-    pub retention: Retention,
-    pub added: Cents,
-    pub tested: Cents,
+    /// Only wrong versions have other ways than the right ones.
+    pub ways: Ways,
     pub highest: u32,
     /// The periods in the book; the oldest has the lowest number.
     pub periods: BTreeMap<u32, Period>,
-}
-
-impl Period {
-    fn new(n: usize) -> Period {
-        let (received, paid) = (vec![0; n], vec![0; n]);
-        Period { sums: Sums::new(n), stage: Stage::BeforeNotice, received, paid }
-    }
-
-    pub fn held(&self) -> u128 {
-        self.received.iter().sum::<u128>() - self.paid.iter().sum::<u128>()
-    }
-
-    /// Arrears of a payer once the period is settled; 0 before.
-    pub fn arrears_of(&self, payer: usize) -> u128 {
-        match &self.stage {
-            Stage::Settled { arrears, .. } => arrears[payer],
-            _ => 0,
-        }
-    }
-
-    /// The most that a receipt of this payer can be: what is left of P_i, or its arrears.
-    pub fn most_receipt(&self, payer: usize) -> u128 {
-        match &self.stage {
-            Stage::BeforeNotice => 0,
-            Stage::Noticed(notice) => notice.payable[payer] - self.received[payer],
-            Stage::Settled { arrears, .. } => arrears[payer],
-        }
-    }
-
-    fn settled_without_arrears(&self) -> bool {
-        match &self.stage {
-            Stage::Settled { arrears, .. } => arrears.iter().all(|&cents| cents == 0),
-            _ => false,
-        }
-    }
-
-    fn stage_takes(&self, kind: u8) -> bool {
-        match self.stage {
-            Stage::BeforeNotice => matches!(kind, ENERGY | AMOUNT | NOTICE),
-            Stage::Noticed(_) => matches!(kind, RECEIPT | SETTLE),
-            Stage::Settled { .. } => kind == RECEIPT,
-        }
-    }
-
-    /// Adds a receipt and gives what it pays each participant.
-    fn receive(&mut self, payer: usize, cents: u128) -> Vec<u128> {
-        self.received[payer] += cents;
-        let held = self.held();
-        let Stage::Settled { claim, arrears } = &mut self.stage else {
-            return vec![0; self.paid.len()];
-        };
-        arrears[payer] -= cents;
-        let shortages = month::shortages(&self.sums, claim, &self.paid);
-        let payments = month::late_payments(&shortages, held);
-        for (paid, payment) in self.paid.iter_mut().zip(&payments) {
-            *paid += payment;
-        }
-        payments
-    }
-
-    /// Settles, and gives what is paid to each participant and the rounds run.
-    fn settle(&mut self) -> (Vec<u128>, u64) {
-        let Stage::Noticed(notice) = &self.stage else {
-            panic!("settled at a wrong stage");
-        };
-        let settlement = month::settle(&self.sums, notice, &self.received);
-        let (claim, arrears) = (settlement.step_one.claim, settlement.step_one.arrears);
-        self.stage = Stage::Settled { claim, arrears };
-        self.paid.clone_from(&settlement.paid);
-        (settlement.paid, settlement.rounds)
-    }
 }
 
 /// Gives the cents of an energy or amount entry.
@@ -157,7 +69,7 @@ impl Book {
     /// The book of a making, without a test of it.
     pub(crate) fn with(making: Making) -> Book {
         let (n, periods) = (making.n as usize, BTreeMap::new());
-        Book { n, making, retention, added: cents, tested: cents, highest: 0, periods }
+        Book { n, making, ways: ways::RIGHT, highest: 0, periods }
     }
 
     /// The cents held in the book.
@@ -207,7 +119,7 @@ impl Book {
         }
         match entry.kind {
             ENERGY | AMOUNT => {
-                let total = period.sums.total(entry.side) + (self.tested)(entry);
+                let total = period.sums.total(entry.side) + (self.ways.tested)(entry);
                 (total > MOST_TOTAL).then_some(TOTAL_PASSES_BOUND)
             }
             NOTICE => (period.sums.total(0) != period.sums.total(1)).then_some(SIDES_UNEQUAL),
@@ -244,11 +156,11 @@ impl Book {
         let participant = usize::from(entry.participant);
         let result = match entry.kind {
             ENERGY | AMOUNT => {
-                period.sums.add(participant, entry.side, tier(entry), (self.added)(entry));
+                period.sums.add(participant, entry.side, tier(entry), (self.ways.added)(entry));
                 (nothing, 0)
             }
             NOTICE => {
-                let retention = (self.retention)(&period.sums, &self.making);
+                let retention = (self.ways.retention)(&period.sums, &self.making);
                 period.stage = Stage::Noticed(month::notice_by(&period.sums, retention));
                 (nothing, 0)
             }

@@ -24,6 +24,7 @@ pub mod malformed;
 pub mod month;
 pub mod months;
 pub mod pairs;
+pub mod period;
 pub mod program;
 pub mod random;
 pub mod reach;
@@ -36,6 +37,7 @@ pub mod trials;
 pub mod trials_of_groups;
 pub mod versions;
 pub mod versions_of_halves;
+pub mod ways;
 mod wrong;
 
 #[cfg(test)]

@@ -1,11 +1,12 @@
 //! How far trials reach into books that are made with groups and reserves (02, a).
 
-use crate::book::{Answer, Book, Period, Stage};
+use crate::book::{Answer, Book};
 use crate::codec::{Entry, NOTICE, RECEIPT, SETTLE};
 use crate::compare::print_answers;
 use crate::kinds::Kinds;
 use crate::making::Making;
 use crate::month;
+use crate::period::{Period, Stage};
 use crate::refusals::*;
 use std::collections::BTreeMap;
 

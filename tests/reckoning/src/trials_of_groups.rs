@@ -2,12 +2,13 @@
 //! every shape, and makings that are refused between them.
 
 use crate::aim::Aim;
-use crate::book::{Book, Stage};
+use crate::book::Book;
 use crate::calls;
 use crate::codec::Entry;
 use crate::groupings::{self, Reserves, Shape};
 use crate::making::Making;
 use crate::makings;
+use crate::period::Stage;
 use crate::random::Random;
 use crate::rounds;
 use crate::trials::{any_apply, any_manner, end};

@@ -17,7 +17,7 @@ pub struct Wrong {
 /// The right book, but for how it reckons A.
 fn retaining(making: &Making, retention: Retention) -> (Book, u8) {
     let (mut book, answer) = Book::make(making);
-    book.retention = retention;
+    book.ways.retention = retention;
     (book, answer)
 }
 

@@ -4,6 +4,7 @@ use crate::book::{cents, Book, Cents};
 use crate::codec::{Entry, ENERGY};
 use crate::making::Making;
 use crate::versions::{wrong, Wrong};
+use crate::ways::Ways;
 
 /// The parts of a cent, and how many of them are a half.
 const PARTS: u128 = 100_000;
@@ -11,14 +12,16 @@ const HALF: u128 = 50_000;
 
 /// The right book, but for the cents of its entries.
 fn adding(making: &Making, cents: Cents) -> (Book, u8) {
-    let (book, answer) = Book::make(making);
-    (Book { added: cents, tested: cents, ..book }, answer)
+    let (mut book, answer) = Book::make(making);
+    book.ways = Ways { added: cents, tested: cents, ..book.ways };
+    (book, answer)
 }
 
 /// The right book, but for the cents that 11 tests.
 fn testing(making: &Making, cents: Cents) -> (Book, u8) {
-    let (book, answer) = Book::make(making);
-    (Book { tested: cents, ..book }, answer)
+    let (mut book, answer) = Book::make(making);
+    book.ways.tested = cents;
+    (book, answer)
 }
 
 fn product(entry: &Entry) -> u128 {

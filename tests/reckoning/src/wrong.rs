@@ -1,8 +1,9 @@
 //! Proposes entries that are meant to be refused, for a book as it stands.
 
 use crate::aim::Aim;
-use crate::book::{Stage, MOST_TOTAL};
+use crate::book::MOST_TOTAL;
 use crate::codec::{Entry, LAST_PARTICIPANT, MOST_CENTS};
+use crate::period::Stage;
 
 impl Aim {
     /// An entry that the book should refuse; now and then it is accepted all the same.

@@ -2,11 +2,12 @@
 //! opened, noticed, settled and paid off by its age, so that twelve are in rotation.
 
 use crate::aim::{Aim, Manner, Scale};
-use crate::book::{Stage, MOST_PERIODS};
+use crate::book::MOST_PERIODS;
 use crate::codec::{Entry, OPEN, RECEIPT, SETTLE};
 use crate::demand3::Count;
 use crate::halves::Half;
 use crate::making::Making;
+use crate::period::Stage;
 use crate::random::Random;
 use crate::refusals::ACCEPTED;
 use std::collections::BTreeMap;

@@ -1,0 +1,90 @@
+//! A period of the book: its stage, its rows of cents, and what receipts and settlement do to it.
+
+use crate::codec::{AMOUNT, ENERGY, NOTICE, RECEIPT, SETTLE};
+use crate::month::{self, Notice, Sums};
+
+#[derive(Clone, Debug)]
+pub enum Stage {
+    BeforeNotice,
+    Noticed(Notice),
+    Settled { claim: Vec<u128>, arrears: Vec<u128> },
+}
+
+#[derive(Clone, Debug)]
+pub struct Period {
+    pub sums: Sums,
+    pub stage: Stage,
+    pub received: Vec<u128>,
+    pub paid: Vec<u128>,
+}
+
+impl Period {
+    pub(crate) fn new(n: usize) -> Period {
+        let (received, paid) = (vec![0; n], vec![0; n]);
+        Period { sums: Sums::new(n), stage: Stage::BeforeNotice, received, paid }
+    }
+
+    pub fn held(&self) -> u128 {
+        self.received.iter().sum::<u128>() - self.paid.iter().sum::<u128>()
+    }
+
+    /// Arrears of a payer once the period is settled; 0 before.
+    pub fn arrears_of(&self, payer: usize) -> u128 {
+        match &self.stage {
+            Stage::Settled { arrears, .. } => arrears[payer],
+            _ => 0,
+        }
+    }
+
+    /// The most that a receipt of this payer can be: what is left of P_i, or its arrears.
+    pub fn most_receipt(&self, payer: usize) -> u128 {
+        match &self.stage {
+            Stage::BeforeNotice => 0,
+            Stage::Noticed(notice) => notice.payable[payer] - self.received[payer],
+            Stage::Settled { arrears, .. } => arrears[payer],
+        }
+    }
+
+    pub(crate) fn settled_without_arrears(&self) -> bool {
+        match &self.stage {
+            Stage::Settled { arrears, .. } => arrears.iter().all(|&cents| cents == 0),
+            _ => false,
+        }
+    }
+
+    pub(crate) fn stage_takes(&self, kind: u8) -> bool {
+        match self.stage {
+            Stage::BeforeNotice => matches!(kind, ENERGY | AMOUNT | NOTICE),
+            Stage::Noticed(_) => matches!(kind, RECEIPT | SETTLE),
+            Stage::Settled { .. } => kind == RECEIPT,
+        }
+    }
+
+    /// Adds a receipt and gives what it pays each participant.
+    pub(crate) fn receive(&mut self, payer: usize, cents: u128) -> Vec<u128> {
+        self.received[payer] += cents;
+        let held = self.held();
+        let Stage::Settled { claim, arrears } = &mut self.stage else {
+            return vec![0; self.paid.len()];
+        };
+        arrears[payer] -= cents;
+        let shortages = month::shortages(&self.sums, claim, &self.paid);
+        let payments = month::late_payments(&shortages, held);
+        for (paid, payment) in self.paid.iter_mut().zip(&payments) {
+            *paid += payment;
+        }
+        payments
+    }
+
+    /// Settles, and gives what is paid to each participant and the rounds run.
+    pub(crate) fn settle(&mut self) -> (Vec<u128>, u64) {
+        let Stage::Noticed(notice) = &self.stage else {
+            panic!("settled at a wrong stage");
+        };
+        let settlement = month::settle(&self.sums, notice, &self.received);
+        let (claim, arrears) = (settlement.step_one.claim, settlement.step_one.arrears);
+        self.stage = Stage::Settled { claim, arrears };
+        self.paid.clone_from(&settlement.paid);
+        (settlement.paid, settlement.rounds)
+    }
+}
