@@ -1,6 +1,7 @@
 //! A reckoning of 01, with requests a and b of 02, on u128, written from the rules alone. It
 //! shares no code and no definitions with the clearing book that is tested by it.
 
+mod accounts;
 pub mod aim;
 pub mod book;
 pub mod calls;
