@@ -1,16 +1,26 @@
-//! A period by its accepted entries, for demand 3.
+//! What accepted entries come to, for demand 3: a period's account, and the purses.
 
 use crate::month::{self, Notice, StepOne, Sums, TIERS};
+use crate::purse::MOST_PURSE;
 
 /// A period by the accepted entries that name it.
 pub struct Account {
     pub sums: Sums,
     pub notice: Option<Notice>,
     pub settled: Option<StepOne>,
+    /// Receipts before the settle entry, what was drawn on purses among them.
     pub received: Vec<u128>,
     /// Receipts after the settle entry.
     pub late: Vec<u128>,
     pub paid: Vec<u128>,
+}
+
+/// The purses by the accepted entries, for each participant.
+pub struct Purses {
+    /// Cents of purse entries.
+    came_in: Vec<u128>,
+    /// Cents that settlements drew.
+    drawn: Vec<u128>,
 }
 
 pub fn sum(cents: &[u128]) -> u128 {
@@ -30,6 +40,16 @@ impl Account {
         let none = vec![0; n];
         let (received, late, paid) = (none.clone(), none.clone(), none);
         Account { sums: Sums::new(n), notice: None, settled: None, received, late, paid }
+    }
+
+    /// What a payer has in arrears; 0 before settlement.
+    pub fn arrears_of(&self, payer: usize) -> u128 {
+        let arrears = self.settled.as_ref().map_or(0, |step| step.arrears[payer]);
+        arrears.saturating_sub(self.late[payer])
+    }
+
+    pub fn held(&self) -> u128 {
+        sum(&self.received) + sum(&self.late) - sum(&self.paid)
     }
 
     fn arrears(&self, step: &StepOne) -> Result<u128, String> {
@@ -74,5 +94,72 @@ impl Account {
         let first_short = short.iter().position(|&short| short).unwrap_or(TIERS);
         let last_gain = gains.iter().rposition(|&gains| gains).unwrap_or(0);
         check(last_gain <= first_short, "late money to a tier while an earlier one was short")
+    }
+}
+
+impl Purses {
+    pub fn new(n: usize) -> Purses {
+        Purses { came_in: vec![0; n], drawn: vec![0; n] }
+    }
+
+    /// A participant's purse: what came in less what was drawn.
+    pub fn purse(&self, i: usize) -> Result<u128, String> {
+        let left = self.came_in[i].checked_sub(self.drawn[i]);
+        left.ok_or_else(|| "demand 3: more was drawn on a purse than came in".into())
+    }
+
+    pub fn total(&self) -> Result<u128, String> {
+        (0..self.came_in.len()).map(|i| self.purse(i)).sum()
+    }
+
+    /// Takes an accepted purse entry.
+    pub fn add(&mut self, i: usize, cents: u128) -> Result<(), String> {
+        self.came_in[i] += cents;
+        check(self.purse(i)? <= MOST_PURSE, "a purse above its bound")
+    }
+
+    /// Takes what a settlement drew, which is within the purse and within what was unpaid.
+    pub fn draw(&mut self, i: usize, cents: u128, unpaid: u128) -> Result<(), String> {
+        check(cents <= self.purse(i)?, "drawn above the purse")?;
+        check(cents <= unpaid, "drawn above what was unpaid")?;
+        self.drawn[i] += cents;
+        Ok(())
+    }
+}
+
+#[cfg(test)]
+mod tests {
+    use super::*;
+
+    /// 300 and 100 came in, and 250 are drawn of 250 unpaid.
+    fn purses() -> Purses {
+        let mut purses = Purses::new(2);
+        purses.add(0, 300).unwrap();
+        purses.add(1, 100).unwrap();
+        purses.draw(0, 250, 250).unwrap();
+        purses
+    }
+
+    #[test]
+    fn a_purse_is_what_came_in_less_what_was_drawn() {
+        let purses = purses();
+        assert_eq!((purses.purse(0), purses.purse(1)), (Ok(50), Ok(100)));
+        assert_eq!(purses.total(), Ok(150));
+    }
+
+    #[test]
+    fn what_is_drawn_above_the_purse_or_above_what_was_unpaid_is_told() {
+        assert!(purses().draw(0, 50, 50).is_ok());
+        assert!(purses().draw(0, 51, 51).unwrap_err().ends_with("above the purse"));
+        assert!(purses().draw(0, 50, 49).unwrap_err().ends_with("above what was unpaid"));
+    }
+
+    #[test]
+    fn a_purse_below_0_or_above_its_bound_is_told() {
+        let mut below = purses();
+        below.drawn[0] = 301;
+        assert!(below.purse(0).is_err() && below.total().is_err());
+        assert!(purses().add(0, MOST_PURSE - 50).is_ok());
+        assert!(purses().add(0, MOST_PURSE - 49).is_err());
     }
 }

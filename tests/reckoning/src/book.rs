@@ -1,9 +1,12 @@
 //! The book: which entries it accepts, and what each accepted entry does.
 
-use crate::codec::{Entry, Field, AMOUNT, ENERGY, MOST_CENTS, NOTICE, OPEN, RECEIPT, SETTLE};
+use crate::codec::{
+    Entry, Field, AMOUNT, ENERGY, MOST_CENTS, NOTICE, OPEN, PURSE, RECEIPT, SETTLE,
+};
 use crate::making::Making;
 use crate::month;
 use crate::period::{Period, Stage};
+use crate::purse::{Payer, MOST_PURSE};
 use crate::refusals::*;
 use crate::ways::{self, Ways};
 use std::collections::BTreeMap;
@@ -30,6 +33,8 @@ pub struct Book {
     pub highest: u32,
     /// The periods in the book; the oldest has the lowest number.
     pub periods: BTreeMap<u32, Period>,
+    /// Each participant's purse.
+    pub purses: Vec<u128>,
 }
 
 /// Gives the cents of an energy or amount entry.
@@ -69,17 +74,33 @@ impl Book {
     /// The book of a making, without a test of it.
     pub(crate) fn with(making: Making) -> Book {
         let (n, periods) = (making.n as usize, BTreeMap::new());
-        Book { n, making, ways: ways::RIGHT, highest: 0, periods }
+        Book { n, making, ways: ways::RIGHT, highest: 0, periods, purses: vec![0; n] }
     }
 
-    /// The cents held in the book.
+    /// The cents held in the book, purses among them.
     pub fn held(&self) -> u128 {
-        self.periods.values().map(Period::held).sum()
+        let in_periods: u128 = self.periods.values().map(Period::held).sum();
+        in_periods + self.purses.iter().sum::<u128>()
     }
 
     /// Whether an earlier settled period has arrears of this payer.
     pub fn barred(&self, period: u32, payer: usize) -> bool {
         self.periods.range(..period).any(|(_, earlier)| earlier.arrears_of(payer) > 0)
+    }
+
+    /// Each payer as the settle entry of a noticed period finds it.
+    pub fn payers(&self, number: u32) -> Vec<Payer> {
+        let period = &self.periods[&number];
+        let Stage::Noticed(notice) = &period.stage else {
+            panic!("payers of a period that is not to be settled");
+        };
+        let payer = |i: usize| Payer {
+            purse: self.purses[i],
+            payable: notice.payable[i],
+            received: period.received[i],
+            barred: self.barred(number, i),
+        };
+        (0..self.n).map(payer).collect()
     }
 
     /// The refusal that an entry gets with so many payout words, if any.
@@ -95,6 +116,7 @@ impl Book {
         }
         match entry.kind {
             OPEN => self.refusal_of_opening(entry.period),
+            PURSE => self.refusal_of_purse(entry),
             _ => self.refusal_of_other_kinds(entry),
         }
     }
@@ -104,6 +126,13 @@ impl Book {
             return Some(NOT_ABOVE_HIGHEST);
         }
         (self.periods.len() == MOST_PERIODS).then_some(TWELVE_PERIODS)
+    }
+
+    fn refusal_of_purse(&self, entry: &Entry) -> Option<u8> {
+        let Some(purse) = self.purses.get(usize::from(entry.participant)) else {
+            return Some(NO_PARTICIPANT);
+        };
+        (purse + u128::from(entry.cents) > MOST_PURSE).then_some(PURSE_PASSES_BOUND)
     }
 
     fn refusal_of_other_kinds(&self, entry: &Entry) -> Option<u8> {
@@ -146,12 +175,27 @@ impl Book {
 
     /// What an accepted entry does: what it pays each participant, and the rounds.
     fn accept(&mut self, entry: &Entry) -> (Vec<u128>, u64) {
-        let nothing = vec![0; self.n];
-        if entry.kind == OPEN {
-            self.highest = entry.period;
-            self.periods.insert(entry.period, Period::new(self.n));
-            return (nothing, 0);
+        match entry.kind {
+            OPEN => {
+                self.highest = entry.period;
+                self.periods.insert(entry.period, Period::new(self.n));
+                (vec![0; self.n], 0)
+            }
+            PURSE => {
+                self.purses[usize::from(entry.participant)] += u128::from(entry.cents);
+                (vec![0; self.n], 0)
+            }
+            _ => self.accept_on_period(entry),
         }
+    }
+
+    /// What an accepted entry does that names a period in the book.
+    fn accept_on_period(&mut self, entry: &Entry) -> (Vec<u128>, u64) {
+        if entry.kind == SETTLE {
+            let drawn: Vec<u128> = self.payers(entry.period).iter().map(Payer::drawn).collect();
+            self.draw(entry.period, &drawn);
+        }
+        let nothing = vec![0; self.n];
         let period = self.periods.get_mut(&entry.period).expect("in the book");
         let participant = usize::from(entry.participant);
         let result = match entry.kind {
@@ -172,5 +216,14 @@ impl Book {
             self.periods.remove(&entry.period);
         }
         result
+    }
+
+    /// Moves cents from each purse into a period that is not settled, as receipts.
+    fn draw(&mut self, number: u32, drawn: &[u128]) {
+        let period = self.periods.get_mut(&number).expect("in the book");
+        for (payer, cents) in drawn.iter().enumerate() {
+            self.purses[payer] -= cents;
+            period.received[payer] += cents;
+        }
     }
 }

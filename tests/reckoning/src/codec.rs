@@ -8,6 +8,10 @@ pub const AMOUNT: u8 = 3;
 pub const NOTICE: u8 = 4;
 pub const RECEIPT: u8 = 5;
 pub const SETTLE: u8 = 6;
+/// Money for a participant's purse (02, c).
+pub const PURSE: u8 = 7;
+/// Kinds run from OPEN to this one.
+pub const LAST_KIND: u8 = PURSE;
 
 pub const LAST_PARTICIPANT: u8 = 63;
 pub const MOST_QUANTITY: u32 = 100_000_000;
@@ -43,7 +47,7 @@ pub struct Entry {
 }
 
 pub fn kind_exists(kind: u8) -> bool {
-    (OPEN..=SETTLE).contains(&kind)
+    (OPEN..=LAST_KIND).contains(&kind)
 }
 
 /// The fields of a kind that exists, in the layout's order.
@@ -53,6 +57,7 @@ pub fn layout(kind: u8) -> &'static [Field] {
         ENERGY => &[Period, Participant, Side, Quantity, Price],
         AMOUNT => &[Period, Participant, Side, Tier, Cents],
         RECEIPT => &[Period, Participant, Cents],
+        PURSE => &[Participant, Cents],
         _ => panic!("no such kind: {kind}"),
     }
 }
@@ -92,6 +97,10 @@ impl Entry {
 
     pub fn settle(period: u32) -> Entry {
         Entry { kind: SETTLE, period, ..Entry::default() }
+    }
+
+    pub fn purse(participant: u8, cents: u64) -> Entry {
+        Entry { kind: PURSE, participant, cents, ..Entry::default() }
     }
 
     pub fn value(&self, field: Field) -> u64 {

@@ -1,9 +1,9 @@
 //! Demand 3 on a listing that another program printed: the equations are put
 //! over the feed's accepted entries and over the numbers as printed.
 
-use crate::accounts::{check, sum, Account};
+use crate::accounts::{check, sum, Account, Purses};
 use crate::book::{cents, tier};
-use crate::codec::{self, Entry, Field, AMOUNT, ENERGY, NOTICE, OPEN, RECEIPT, SETTLE};
+use crate::codec::{self, Entry, Field, AMOUNT, ENERGY, NOTICE, OPEN, PURSE, RECEIPT, SETTLE};
 use crate::halves::{Half, Halves};
 use crate::lines::{self, Line};
 use crate::making::Making;
@@ -26,6 +26,8 @@ pub struct Count {
 struct Ledger {
     n: usize,
     in_book: BTreeMap<u32, Account>,
+    purses: Purses,
+    /// Cents of receipts and of purse entries; what is drawn is not received again.
     received: u128,
     paid: u128,
     count: Count,
@@ -33,8 +35,8 @@ struct Ledger {
 
 impl Ledger {
     fn new(n: usize) -> Ledger {
-        let in_book = BTreeMap::new();
-        Ledger { n, in_book, received: 0, paid: 0, count: Count::default() }
+        let (in_book, purses) = (BTreeMap::new(), Purses::new(n));
+        Ledger { n, in_book, purses, received: 0, paid: 0, count: Count::default() }
     }
 
     /// Takes an accepted entry with the payouts printed for it.
@@ -42,11 +44,23 @@ impl Ledger {
         check(self.n > 0, "an entry accepted in a book of refused n")?;
         let outside = entry.has(Field::Participant) && usize::from(entry.participant) >= self.n;
         check(!outside, "an entry accepted for a participant of n or above")?;
-        if entry.kind == OPEN {
-            check(sum(payouts) == 0, "an opening paid money")?;
-            let before = self.in_book.insert(entry.period, Account::new(self.n));
-            return check(before.is_none(), "a period opened twice");
+        match entry.kind {
+            OPEN => {
+                check(sum(payouts) == 0, "an opening paid money")?;
+                let before = self.in_book.insert(entry.period, Account::new(self.n));
+                check(before.is_none(), "a period opened twice")
+            }
+            PURSE => {
+                check(sum(payouts) == 0, "a purse entry paid money")?;
+                self.received += u128::from(entry.cents);
+                self.purses.add(entry.participant.into(), entry.cents.into())
+            }
+            _ => self.accepted_on_period(entry, payouts),
         }
+    }
+
+    /// Takes an accepted entry that names a period in the book.
+    fn accepted_on_period(&mut self, entry: &Entry, payouts: &[u128]) -> Result<(), String> {
         let Some(mut account) = self.in_book.remove(&entry.period) else {
             return Err("demand 3: an entry accepted on a period that is not in the book".into());
         };
@@ -91,12 +105,13 @@ impl Ledger {
                 self.count.late_receipts += u64::from(late);
             }
             SETTLE => {
-                let Some(notice) = &account.notice else {
-                    return Err("demand 3: settled before notice".into());
+                let Some(notice) = account.notice.take() else {
+                    return Err("demand 3: settled before notice, or twice".into());
                 };
-                let within = account.received.iter().zip(&notice.payable).all(|(r, p)| r <= p);
-                check(within, "more received than payable")?;
-                account.settled = Some(month::step_one(notice, &account.received));
+                for (payer, &payable) in notice.payable.iter().enumerate() {
+                    self.draw(account, entry.period, payer, payable)?;
+                }
+                account.settled = Some(month::step_one(&notice, &account.received));
                 self.count.settled_months += 1;
             }
             kind => panic!("no such kind: {kind}"),
@@ -104,14 +119,33 @@ impl Ledger {
         Ok(())
     }
 
+    /// Moves in what a payer has in its purse, up to what is unpaid, unless it has arrears in an
+    /// older period.
+    fn draw(
+        &mut self,
+        account: &mut Account,
+        number: u32,
+        payer: usize,
+        payable: u128,
+    ) -> Result<(), String> {
+        let received = &mut account.received[payer];
+        check(*received <= payable, "more received than payable")?;
+        let unpaid = payable - *received;
+        let mut older = self.in_book.range(..number).map(|(_, older)| older);
+        if older.any(|older| older.arrears_of(payer) > 0) {
+            return Ok(());
+        }
+        let drawn = unpaid.min(self.purses.purse(payer)?);
+        *received += drawn;
+        self.purses.draw(payer, drawn, unpaid)
+    }
+
     /// The cents held that the listing prints, by both of 01's reckonings.
     fn check_held(&self, held: u128) -> Result<(), String> {
         check(self.received == self.paid + held, "received is not paid plus held")?;
-        let in_book = self
-            .in_book
-            .values()
-            .map(|account| sum(&account.received) + sum(&account.late) - sum(&account.paid));
-        check(in_book.sum::<u128>() == held, "held is not the sum over the periods in the book")
+        let in_book: u128 = self.in_book.values().map(Account::held).sum();
+        let all = in_book + self.purses.total()?;
+        check(all == held, "held is not the sum over the periods in the book and the purses")
     }
 
     fn entry(&mut self, entry: &Entry, line: &Line) -> Result<(), String> {

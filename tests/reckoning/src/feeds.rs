@@ -2,7 +2,7 @@
 
 use crate::aim::{Aim, Manner, Scale};
 use crate::book::Book;
-use crate::codec::{Entry, MOST_CENTS};
+use crate::codec::{Entry, LAST_KIND, MOST_CENTS};
 use crate::making::Making;
 use crate::random::Random;
 use crate::rounds;
@@ -124,7 +124,7 @@ fn noise(random: &mut Random) -> Vec<u8> {
     let mut bytes = random.bytes(count);
     if random.chance(1, 2) {
         for byte in &mut bytes {
-            *byte %= 7;
+            *byte %= LAST_KIND + 1;
         }
     }
     bytes
@@ -137,7 +137,7 @@ fn end_badly(bytes: &mut Vec<u8>, random: &mut Random) {
             let keep = random.below(bytes.len() as u64 + 1);
             bytes.truncate(keep as usize);
         }
-        1 => bytes.push(random.pick(&[0, 7, 8, 127, 255])),
+        1 => bytes.push(random.pick(&[0, LAST_KIND + 1, LAST_KIND + 2, 127, 255])),
         2 => bytes.extend(bad_field(random).bytes()),
         _ => {
             let count = random.between(1, 40) as usize;
@@ -166,6 +166,9 @@ fn bad_field(random: &mut Random) -> Entry {
         Entry::receipt(1, 64, 1),
         Entry::receipt(1, 0, 0),
         Entry::receipt(1, 0, MOST_CENTS + 1),
+        Entry::purse(64, 1),
+        Entry::purse(0, 0),
+        Entry::purse(0, MOST_CENTS + 1),
     ])
 }
 

@@ -1,4 +1,4 @@
-//! A reckoning of 01, with requests a and b of 02, on u128, written from the rules alone. It
+//! A reckoning of 01, with requests a to c of 02, on u128, written from the rules alone. It
 //! shares no code and no definitions with the clearing book that is tested by it.
 
 mod accounts;
@@ -27,6 +27,7 @@ pub mod months;
 pub mod pairs;
 pub mod period;
 pub mod program;
+pub mod purse;
 pub mod random;
 pub mod reach;
 pub mod refusals;

@@ -12,7 +12,7 @@
 //! - 8 with 10 and 11: a period not in the book has no totals.
 
 use crate::calls;
-use crate::codec::{Entry, MOST_CENTS};
+use crate::codec::{Entry, LAST_KIND, MOST_CENTS};
 use crate::makings;
 
 /// The pairs covered: an earlier refusal, and each later one that it is put with,
@@ -245,7 +245,7 @@ fn pairs_of_reading_and_writing() -> Vec<Pair> {
         Pair { of: "reading", earlier, later, both, alone }
     };
     let mut pairs: Vec<Pair> =
-        [0, 7, 255].iter().map(|&kind| reading(2, 1, &[kind], &[1])).collect();
+        [0, LAST_KIND + 1, 255].iter().map(|&kind| reading(2, 1, &[kind], &[1])).collect();
     pairs.push(reading(1, 3, &tier_6.bytes()[..15], &tier_6.bytes()));
     let (both, alone) = (calls::write(&tier_6, 15), calls::write(&right, 15));
     pairs.push(Pair { of: "writing", earlier: 3, later: 5, both, alone });

@@ -1,4 +1,4 @@
-//! The numbers of 01's section "Refused, by whoever causes it".
+//! The numbers of 01's section "Refused, by whoever causes it", and those that 02 adds.
 
 pub const ACCEPTED: u8 = 0;
 /// No byte, or fewer than the body needs.
@@ -19,6 +19,8 @@ pub const TOTAL_PASSES_BOUND: u8 = 11;
 pub const NO_PARTICIPANT: u8 = 12;
 pub const RECEIPT_ABOVE: u8 = 13;
 pub const EARLIER_ARREARS: u8 = 14;
+/// The purse would pass 10,000,000,000,000 (02, c).
+pub const PURSE_PASSES_BOUND: u8 = 15;
 
 /// How many numbers there are, 0 (accepted) among them.
-pub const NUMBERS: usize = 15;
+pub const NUMBERS: usize = 16;

@@ -1,18 +1,19 @@
 //! Tests of the book: each refusal, what a refusal leaves, and the payout words.
 
-use crate::book::Book;
+use crate::book::{Answer, Book};
 use crate::calls;
 use crate::codec::{Entry, MOST_CENTS};
 use crate::making::{Making, MOST_RESERVE};
 
 /// A book of three with period 2 settled with arrears of payer 0, 3 after its
-/// notice, and 4 before it.
+/// notice, and 4 before it; a cent is in the purse of participant 1.
 fn scene() -> Book {
     let mut book = Book::alone(3);
     let mut entries = calls::month_a_to_settle(2);
     entries.extend(calls::month_a_to_notice(3));
     entries.push(Entry::open(4));
     entries.push(Entry::amount(4, 0, 0, 0, MOST_CENTS));
+    entries.push(Entry::purse(1, 1));
     for entry in entries {
         assert_eq!(book.apply(&entry, &mut [9; 3]).number, 0, "{entry:?}");
     }
@@ -53,6 +54,13 @@ fn each_refusal() {
         (Entry::receipt(2, 2, 1), 3, 13),
         (Entry::receipt(3, 0, 1), 3, 14),
         (Entry::receipt(3, 0, 601), 3, 14),
+        (Entry::purse(0, 1), 2, 5),
+        (Entry::purse(64, 1), 3, 3),
+        (Entry::purse(0, 0), 3, 3),
+        (Entry::purse(1, MOST_CENTS + 1), 3, 3),
+        (Entry::purse(3, 1), 3, 12),
+        (Entry::purse(63, MOST_CENTS), 3, 12),
+        (Entry::purse(1, MOST_CENTS), 3, 15),
     ];
     let mut book = scene();
     for (entry, words, number) in rows {
@@ -81,6 +89,21 @@ fn acceptance_sets_the_first_n_words_only() {
     words = [9; 5];
     assert_eq!(book.apply(&Entry::receipt(2, 0, 100), &mut words).number, 0);
     assert_eq!(words, [0, 78, 22, 9, 9]);
+    words = [9; 5];
+    assert_eq!(book.apply(&Entry::purse(1, 1), &mut words), Answer { number: 0, rounds: 0 });
+    assert_eq!(words, [0, 0, 0, 9, 9]);
+}
+
+/// Whatever stands in the fields that a purse entry lacks: a period that is not in the book, or in
+/// any stage.
+#[test]
+fn a_purse_entry_names_no_period() {
+    let mut book = scene();
+    for period in [0, 1, 2, 3, 4, 5, u32::MAX] {
+        let entry = Entry { period, side: 2, tier: 6, ..Entry::purse(2, 10) };
+        assert_eq!(book.apply(&entry, &mut [9; 3]).number, 0, "{period}");
+    }
+    assert_eq!(book.purses, [0, 1, 70]);
 }
 
 #[test]
@@ -152,7 +175,8 @@ fn a_refused_book_is_that_of_refusal_4() {
         let mut book = Book::make(&making).0;
         assert_eq!(format!("{book:?}"), format!("{:?}", Book::alone(65)));
         assert_eq!(book.held(), 0);
-        let entries = [Entry::open(1), Entry::receipt(1, 64, 0), Entry::settle(9)];
+        let entries =
+            [Entry::open(1), Entry::receipt(1, 64, 0), Entry::settle(9), Entry::purse(0, 1)];
         for (entry, words) in entries.into_iter().flat_map(|entry| [(entry, 0), (entry, 64)]) {
             assert_eq!(refused(&mut book, entry, words), 4);
         }

@@ -9,7 +9,7 @@ fn any_right_entry(random: &mut Random) -> Entry {
     let side = random.below(2) as u8;
     let tier = if side == 0 { 0 } else { random.between(1, 5) as u8 };
     let cents = random.between(1, MOST_CENTS);
-    match random.between(1, 6) {
+    match random.between(OPEN.into(), LAST_KIND.into()) {
         1 => Entry::open(period),
         2 => {
             let quantity = random.between(0, MOST_QUANTITY.into()) as u32;
@@ -19,14 +19,15 @@ fn any_right_entry(random: &mut Random) -> Entry {
         3 => Entry::amount(period, participant, side, tier, cents),
         4 => Entry::notice(period),
         5 => Entry::receipt(period, participant, cents),
-        _ => Entry::settle(period),
+        6 => Entry::settle(period),
+        _ => Entry::purse(participant, cents),
     }
 }
 
 #[test]
 fn body_lengths() {
-    let lengths: Vec<usize> = (1..=6).map(body_length).collect();
-    assert_eq!(lengths, [4, 14, 15, 4, 13, 4]);
+    let lengths: Vec<usize> = (OPEN..=LAST_KIND).map(body_length).collect();
+    assert_eq!(lengths, [4, 14, 15, 4, 13, 4, 9]);
 }
 
 #[test]
@@ -49,7 +50,9 @@ fn writing_undoes_reading() {
     let mut accepted = 0;
     for _ in 0..200_000 {
         let mut bytes = random.bytes(16);
-        bytes[0] %= 7;
+        bytes[0] %= LAST_KIND + 1;
+        // A purse entry's participant is its first field.
+        bytes[1] %= 66;
         // Small fields, so that many are inside their values.
         bytes[5] %= 66;
         bytes[6] %= 3;
@@ -75,7 +78,9 @@ fn reading_refuses() {
     assert_eq!(read(&[1, 7, 0, 0, 0], u64::MAX), Err(1));
     assert_eq!(read(&[1, 7, 0, 0], 0), Err(1));
     assert_eq!(read(&[0], 0), Err(2));
-    assert_eq!(read(&[7, 0, 0, 0, 0], 0), Err(2));
+    assert_eq!(read(&[7, 2, 44, 1, 0, 0, 0, 0, 0], 0), Err(1));
+    assert_eq!(read(&[7], 0), Err(1));
+    assert_eq!(read(&[8, 0, 0, 0, 0], 0), Err(2));
     assert_eq!(read(&[9, 1, 7, 0, 0, 0], 1), Ok((Entry::open(7), 6)));
 }
 
@@ -97,6 +102,9 @@ fn fields_at_their_bounds() {
         (Entry::receipt(1, 63, 1), Entry::receipt(1, 64, 1)),
         (Entry::receipt(1, 0, 1), Entry::receipt(1, 0, 0)),
         (Entry::receipt(1, 0, MOST_CENTS), Entry::receipt(1, 0, MOST_CENTS + 1)),
+        (Entry::purse(63, 1), Entry::purse(64, 1)),
+        (Entry::purse(0, 1), Entry::purse(0, 0)),
+        (Entry::purse(0, MOST_CENTS), Entry::purse(0, MOST_CENTS + 1)),
     ];
     for (stands, refused) in rows {
         assert!(read(&stands.bytes(), 0).is_ok(), "{stands:?}");
@@ -111,4 +119,20 @@ fn writing_refuses_and_changes_nothing() {
     assert_eq!(write(&Entry::amount(1, 0, 1, 5, 1), &mut lent), Err(5));
     assert_eq!(write(&Entry::amount(1, 0, 1, 6, 1), &mut lent), Err(3));
     assert_eq!(lent, [238; 15]);
+}
+
+/// Kind, participant and cents; the period and the other fields are passed over.
+#[test]
+fn a_purse_entry_has_ten_bytes() {
+    let entry = Entry::purse(2, 300);
+    let bytes = [7, 2, 44, 1, 0, 0, 0, 0, 0, 0];
+    let with_others = Entry { period: 9, side: 2, tier: 6, quantity: 5, price: 4, ..entry };
+    for entry in [entry, with_others] {
+        let mut lent = [238; 12];
+        assert_eq!(write(&entry, &mut lent), Ok(10));
+        assert_eq!(lent[..10], bytes);
+        assert_eq!(lent[10..], [238; 2]);
+        assert_eq!(write(&entry, &mut [238; 9]), Err(5));
+    }
+    assert_eq!(read(&bytes, 0), Ok((entry, 10)));
 }

@@ -3,7 +3,7 @@
 use crate::aim::{Aim, Manner, Scale};
 use crate::book::Book;
 use crate::calls;
-use crate::codec::{self, Entry, Field, MOST_CENTS, MOST_PRICE, MOST_QUANTITY};
+use crate::codec::{self, Entry, Field, LAST_KIND, MOST_CENTS, MOST_PRICE, MOST_QUANTITY};
 use crate::making::Making;
 use crate::random::Random;
 use crate::rounds;
@@ -99,7 +99,7 @@ pub(crate) fn end(bytes: &mut Vec<u8>, random: &mut Random) {
         1 => bytes.push(random.pick(b"\0\nCXabrw\xff")),
         2 => {
             let mut entry = Entry::open(1);
-            entry.kind = random.pick(&[0, 7, 255]);
+            entry.kind = random.pick(&[0, LAST_KIND + 1, 255]);
             let with_kind: fn(&Entry, u8) -> Vec<u8> =
                 random.pick(&[calls::apply as _, calls::write as _]);
             bytes.extend(with_kind(&entry, 3));
