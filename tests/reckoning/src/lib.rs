@@ -4,8 +4,11 @@
 mod accounts;
 pub mod aim;
 pub mod book;
+pub mod by_hand;
 pub mod calls;
 pub mod cases_of_halves;
+pub mod cases_of_older_arrears;
+pub mod cases_of_purses;
 pub mod codec;
 pub mod compare;
 pub mod damage;
