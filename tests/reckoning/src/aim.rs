@@ -34,6 +34,8 @@ pub struct Manner {
     pub amounts: u64,
     /// The most that a new period is above the highest.
     pub step: u64,
+    /// So many of 100 fitting proposals are money for purses.
+    pub purses: u64,
 }
 
 pub struct Aim {
@@ -59,6 +61,9 @@ impl Aim {
     }
 
     fn fitting_entry(&mut self) -> Entry {
+        if self.random.chance(self.manner.purses, 100) {
+            return self.early_money();
+        }
         let count = self.book.periods.len();
         let haste = if self.manner.periods == MOST_PERIODS { 2 } else { 5 };
         let wanted = count < self.manner.periods && self.random.chance(1, haste);
@@ -200,6 +205,10 @@ impl Aim {
             return self.receipt_of(number, payer);
         }
         let payer = self.random.pick(&payers);
+        // Money for its purse leaves a payer in arrears, and barred in later periods.
+        if self.random.chance(2 * self.manner.purses, 100) {
+            return self.early_money_of(payer as u8, 0);
+        }
         self.receipt_of(number, payer)
     }
 

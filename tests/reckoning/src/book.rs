@@ -37,6 +37,9 @@ pub struct Book {
     pub purses: Vec<u128>,
 }
 
+/// Makes a book: the book, and 0 or the refusal's number.
+pub type Make = fn(&Making) -> (Book, u8);
+
 /// Gives the cents of an energy or amount entry.
 pub type Cents = fn(&Entry) -> u128;
 

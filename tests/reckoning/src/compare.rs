@@ -1,6 +1,7 @@
 //! Compares two programs with the reckoning on feeds and trials from fixed seeds.
 
 use crate::cases_of_halves;
+use crate::draws::Draws;
 use crate::feeds::{self, KINDS};
 use crate::halves::Halves;
 use crate::handover::handover;
@@ -11,6 +12,7 @@ use crate::reach::Reach;
 use crate::refusals::NUMBERS;
 use crate::trials::{self, TRIALS, TRIALS_OF_ROUNDS};
 use crate::trials_of_groups;
+use crate::trials_of_purses;
 
 /// Differences printed in full; the others are only counted.
 const SHOWN: u64 = 10;
@@ -35,6 +37,8 @@ struct Totals {
     reach: Reach,
     listed_halves: Halves,
     tried_halves: Halves,
+    listed_draws: Draws,
+    tried_draws: Draws,
 }
 
 fn add(to: &mut [u64], from: &[u64]) {
@@ -78,6 +82,7 @@ impl Totals {
                 self.with_arrears += count.months_with_arrears;
                 add(&mut self.listed, &count.answers);
                 self.listed_halves.add(&count.halves);
+                self.listed_draws.add(&count.draws);
             }
         }
     }
@@ -94,6 +99,7 @@ impl Totals {
                 add(&mut self.rounds, &count.rounds);
                 self.reach.add(&count.seen.reach);
                 self.tried_halves.add(&count.seen.halves);
+                self.tried_draws.add(&count.seen.draws);
             }
         }
     }
@@ -107,6 +113,8 @@ impl Totals {
             && self.reach.covered()
             && self.listed_halves.covered()
             && self.tried_halves.covered()
+            && self.listed_draws.covered()
+            && self.tried_draws.covered()
             && self.listed.iter().enumerate().all(|(number, &count)| number == 5 || count > 0);
         if !enough {
             println!("too little was compared");
@@ -121,6 +129,8 @@ impl Totals {
         self.reach.print();
         self.listed_halves.print("listings");
         self.tried_halves.print("trials");
+        self.listed_draws.print("listings");
+        self.tried_draws.print("trials");
         println!(
             "months settled with arrears: {}, months that left: {}",
             self.with_arrears, self.left
@@ -152,6 +162,12 @@ fn compare_cases_of_halves(totals: &mut Totals, listing: &str, trial: &str) {
     }
 }
 
+fn compare_cases_of_purses(totals: &mut Totals, listing: &str) {
+    for case in trials_of_purses::every_case() {
+        totals.feed(listing, &format!("feed of purses, {}", case.name), &case.feed());
+    }
+}
+
 fn compare_trials(totals: &mut Totals, program: &str) {
     totals.trial(program, "trial empty", &[]);
     for (place, pair) in pairs::pairs().iter().enumerate() {
@@ -169,7 +185,7 @@ fn compare_trials(totals: &mut Totals, program: &str) {
             &trials::trial_of_rounds(seed),
         );
     }
-    for (name, calls) in trials_of_groups::every_trial() {
+    for (name, calls) in trials_of_groups::every_trial().chain(trials_of_purses::every_trial()) {
         totals.trial(program, &name, &calls);
     }
 }
@@ -180,6 +196,7 @@ pub fn compare(listing: &str, trial: &str) -> bool {
     compare_feeds(&mut totals, listing);
     compare_trials(&mut totals, trial);
     compare_cases_of_halves(&mut totals, listing, trial);
+    compare_cases_of_purses(&mut totals, listing);
     let covered = totals.differences > 0 || totals.covered();
     totals.print();
     let handed_over = handover(listing);
@@ -204,13 +221,16 @@ mod tests {
         };
         // No feed can lend too few payout words.
         totals.listed[5] = 0;
-        let of_groups = trials_of_groups::every_trial().map(|(_, calls)| calls);
+        let of_groups = trials_of_groups::every_trial().chain(trials_of_purses::every_trial());
+        let of_groups = of_groups.map(|(_, calls)| calls);
         for calls in of_groups.chain(cases_of_halves::cases().iter().map(|case| case.trial())) {
             let seen = trial::lines_by(Book::make, &calls).1;
             totals.reach.add(&seen.reach);
             totals.tried_halves.add(&seen.halves);
+            totals.tried_draws.add(&seen.draws);
         }
         totals.listed_halves = totals.tried_halves.clone();
+        totals.listed_draws = totals.tried_draws.clone();
         totals
     }
 
@@ -226,10 +246,12 @@ mod tests {
         assert!(without(|less| less.feeds -= 1));
         assert!(without(|less| less.months -= 1));
         assert!(without(|less| less.calls -= 1));
-        assert!(without(|less| less.listed[14] = 0));
+        assert!(without(|less| less.listed[15] = 0));
         assert!(without(|less| less.tried[5] = 0));
         assert!(without(|less| less.reach = Reach::default()));
         assert!(without(|less| less.listed_halves.down_to_bound[1] = 0));
         assert!(without(|less| less.tried_halves.up_past_bound[0] = 0));
+        assert!(without(|less| less.listed_draws.counts[0] = 0));
+        assert!(without(|less| less.tried_draws.counts[20] = 0));
     }
 }

@@ -4,6 +4,7 @@
 use crate::accounts::{check, sum, Account, Purses};
 use crate::book::{cents, tier};
 use crate::codec::{self, Entry, Field, AMOUNT, ENERGY, NOTICE, OPEN, PURSE, RECEIPT, SETTLE};
+use crate::draws::Draws;
 use crate::halves::{Half, Halves};
 use crate::lines::{self, Line};
 use crate::making::Making;
@@ -21,6 +22,8 @@ pub struct Count {
     /// How often each answer was given.
     pub answers: [u64; NUMBERS],
     pub halves: Halves,
+    /// What the reckoning's own listing saw of purses.
+    pub draws: Draws,
 }
 
 struct Ledger {

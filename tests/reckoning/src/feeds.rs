@@ -18,7 +18,7 @@ const fn kind(name: &'static str, feeds: u64, entries: u64) -> Kind {
     Kind { name, feeds, entries }
 }
 
-pub const KINDS: [Kind; 14] = [
+pub const KINDS: [Kind; 15] = [
     // n of 1 to 6 and few cents.
     kind("few", 150, 600),
     // n of 2 to 6 and hundreds of cents.
@@ -47,6 +47,8 @@ pub const KINDS: [Kind; 14] = [
     kind("refused-n", 30, 40),
     // 100,000 entries.
     kind("long", 5, 100_000),
+    // n of 2 to 6 and much money for purses.
+    kind("purses", 120, 600),
 ];
 
 fn manner(name: &str, random: &mut Random, n: u64) -> Manner {
@@ -59,6 +61,7 @@ fn manner(name: &str, random: &mut Random, n: u64) -> Manner {
     };
     let periods = match name {
         "twelve" => 12,
+        "purses" => random.pick(&[2, 3, 4, 12]),
         _ => random.pick(&[1, 2, 3, 4, 7]),
     };
     let wrong = match name {
@@ -67,7 +70,12 @@ fn manner(name: &str, random: &mut Random, n: u64) -> Manner {
         _ => random.pick(&[0, 5, 15]),
     };
     let step = if name == "highest" { 1 << 29 } else { random.pick(&[1, 1, 4, 100]) };
-    Manner { scale, wrong, periods, amounts: n + 3, step }
+    let purses = match name {
+        "purses" => random.pick(&[10, 25]),
+        "long" => 3,
+        _ => random.pick(&[0, 0, 2, 8]),
+    };
+    Manner { scale, wrong, periods, amounts: n + 3, step, purses }
 }
 
 fn participants(name: &str, seed: u64, random: &mut Random) -> u64 {
@@ -78,7 +86,7 @@ fn participants(name: &str, seed: u64, random: &mut Random) -> u64 {
         "rounds" => random.between(4, 64),
         "long" => [3, 64, 2, 5, 6][(seed % 5) as usize],
         "refused-n" => [0, 65, 255, random.between(66, 254)][(seed % 4) as usize],
-        "twelve" => random.between(2, 6),
+        "twelve" | "purses" => random.between(2, 6),
         "cut" | "wrong" => random.pick(&[1, 2, 3, 4, 5, 6, 63, 64]),
         _ => random.between(1, 6),
     }

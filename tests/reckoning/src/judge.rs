@@ -2,7 +2,7 @@
 
 use crate::book::Book;
 use crate::demand3::{self, Count};
-use crate::listing::listing;
+use crate::listing;
 use crate::refusals::NUMBERS;
 use crate::trial::{self, Seen};
 
@@ -36,8 +36,9 @@ pub fn difference_after(lines: u64, reckoned: &[u8], found: &[u8]) -> Option<Str
 /// What the listing found for a feed came to, or how it differs.
 pub fn judge_listing(feed: &[u8], found: &[u8]) -> Result<Count, String> {
     let by_demand_3 = demand3::check_listing(feed, found);
-    match (first_difference(&listing(feed), found), by_demand_3) {
-        (None, result) => result,
+    let (reckoned, draws) = listing::lines_by(Book::make, feed);
+    match (first_difference(&reckoned, found), by_demand_3) {
+        (None, result) => result.map(|count| Count { draws, ..count }),
         (Some(difference), Ok(_)) => Err(difference),
         (Some(difference), Err(what)) => Err(format!("{difference}; {what}")),
     }

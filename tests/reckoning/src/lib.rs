@@ -13,6 +13,8 @@ pub mod codec;
 pub mod compare;
 pub mod damage;
 pub mod demand3;
+pub mod draws;
+mod early_money;
 pub mod energies;
 pub mod feeds;
 pub mod groupings;
@@ -22,6 +24,7 @@ pub mod judge;
 pub mod kinds;
 pub mod lines;
 pub mod listing;
+mod maker;
 pub mod making;
 pub mod makings;
 pub mod malformed;
@@ -40,8 +43,10 @@ pub mod soak;
 pub mod trial;
 pub mod trials;
 pub mod trials_of_groups;
+pub mod trials_of_purses;
 pub mod versions;
 pub mod versions_of_halves;
+pub mod watch_of_purses;
 pub mod ways;
 mod wrong;
 
@@ -51,6 +56,8 @@ mod examples;
 mod examples_of_groups;
 #[cfg(test)]
 mod examples_of_halves;
+#[cfg(test)]
+mod examples_of_purses;
 #[cfg(test)]
 mod tests_of_book;
 #[cfg(test)]

@@ -1,8 +1,11 @@
 //! The listing: from the bytes of a feed to the text that 01's listing program prints.
 
-use crate::book::Book;
+use crate::book::{Book, Make};
 use crate::codec::{self, Entry, LONGEST_ENTRY};
+use crate::draws::Draws;
+use crate::making::Making;
 use crate::refusals::ACCEPTED;
+use crate::watch_of_purses::Watch;
 use std::io::{self, Read, Write};
 
 const BLOCK: usize = 1 << 16;
@@ -77,12 +80,22 @@ pub(crate) fn print_entry(
 
 /// Prints the listing of a feed, reading the feed in blocks.
 pub fn list(input: impl Read, out: &mut impl Write) -> io::Result<()> {
+    list_by(Book::make, input, out, None)
+}
+
+/// Prints the listing of a feed where books are made so, and lets someone watch.
+fn list_by(
+    make: Make,
+    input: impl Read,
+    out: &mut impl Write,
+    mut watch: Option<&mut Watch>,
+) -> io::Result<()> {
     let mut feed = Feed::new(input);
     writeln!(out, "entry answer paid held")?;
     let Some(n) = feed.n()? else {
         return Ok(());
     };
-    let mut book = Book::alone(n.into());
+    let mut book = make(&Making::alone(n.into())).0;
     let mut number = 0;
     while let Some(found) = feed.next()? {
         number += 1;
@@ -91,16 +104,27 @@ pub fn list(input: impl Read, out: &mut impl Write) -> io::Result<()> {
             Err(refusal) => return print_entry(out, number, refusal, &[], book.held()),
         };
         let mut words = vec![0; book.n];
+        if let Some(watch) = &mut watch {
+            watch.before(&book, &entry);
+        }
         let answer = book.apply(&entry, &mut words).number;
+        if let Some(watch) = &mut watch {
+            watch.after(answer);
+        }
         let payouts = if answer == ACCEPTED { &words[..] } else { &[] };
         print_entry(out, number, answer, payouts, book.held())?;
     }
     Ok(())
 }
 
+/// The listing of a feed that is in memory, where books are made so, and what was seen of purses.
+pub fn lines_by(make: Make, feed: &[u8]) -> (Vec<u8>, Draws) {
+    let (mut out, mut watch) = (Vec::new(), Watch::default());
+    list_by(make, feed, &mut out, Some(&mut watch)).expect("memory takes every byte");
+    (out, watch.draws)
+}
+
 /// The listing of a feed that is in memory.
 pub fn listing(feed: &[u8]) -> Vec<u8> {
-    let mut out = Vec::new();
-    list(feed, &mut out).expect("memory takes every byte");
-    out
+    lines_by(Book::make, feed).0
 }

@@ -24,6 +24,8 @@ pub struct Reach {
     pub other_rows: u64,
     pub with_arrears: u64,
     pub with_rounds: u64,
+    /// And those that drew on a purse.
+    pub drew: u64,
     pub late: u64,
     /// Where a payer's payable amount is another one by its group: receipts that reach it, and
     /// refused ones that pass it by a cent.
@@ -32,12 +34,13 @@ pub struct Reach {
 }
 
 impl Reach {
-    fn numbers(&mut self) -> [&mut u64; 7] {
+    fn numbers(&mut self) -> [&mut u64; 8] {
         [
             &mut self.to_refused,
             &mut self.other_rows,
             &mut self.with_arrears,
             &mut self.with_rounds,
+            &mut self.drew,
             &mut self.late,
             &mut self.up_to_payable,
             &mut self.a_cent_above,
@@ -67,8 +70,8 @@ impl Reach {
         self.kinds.print("settled months");
         println!(
             "settled months with another payable row than groups of one: {}, {} with arrears, {} \
-             with rounds, {} late receipts",
-            self.other_rows, self.with_arrears, self.with_rounds, self.late
+             with rounds, {} drew on a purse, {} late receipts",
+            self.other_rows, self.with_arrears, self.with_rounds, self.drew, self.late
         );
         println!(
             "receipts up to another payable amount: {}, a cent above it: {}",
@@ -101,8 +104,15 @@ impl Watch {
         self.reach.makings[usize::from(answer)] += 1;
     }
 
-    /// An entry was put to a book, and the period that it names was as given before.
-    pub fn applied(&mut self, book: &Book, before: Option<&Period>, entry: &Entry, answer: Answer) {
+    /// An entry was put to a book. Before, the period that it names was as given, and so many cents
+    /// were in purses.
+    pub fn applied(
+        &mut self,
+        book: &Book,
+        (before, purses): (Option<&Period>, u128),
+        entry: &Entry,
+        answer: Answer,
+    ) {
         if self.made.is_none() {
             return;
         }
@@ -111,7 +121,10 @@ impl Watch {
                 self.reach.to_refused += u64::from(self.made == Some(FIELD_OUTSIDE));
             }
             (NOTICE, ACCEPTED) => self.noticed(book, entry.period),
-            (SETTLE, ACCEPTED) => self.settled(book, entry.period, answer.rounds),
+            (SETTLE, ACCEPTED) => {
+                let drew = book.purses.iter().sum::<u128>() < purses;
+                self.settled(book, entry.period, answer.rounds, drew);
+            }
             (RECEIPT, number) => {
                 if let Some(before) = before {
                     self.received(before, entry, number);
@@ -131,13 +144,14 @@ impl Watch {
         }
     }
 
-    fn settled(&mut self, book: &Book, number: u32, rounds: u64) {
+    fn settled(&mut self, book: &Book, number: u32, rounds: u64, drew: bool) {
         let reach = &mut self.reach;
         reach.kinds.take(&book.making);
         if self.rows_of_one.contains_key(&number) {
             reach.other_rows += 1;
             reach.with_arrears += u64::from(book.periods.contains_key(&number));
             reach.with_rounds += u64::from(rounds > 0);
+            reach.drew += u64::from(drew);
         }
     }
 
@@ -196,7 +210,7 @@ mod tests {
         let reach = reach_of(every_trial().map(|(_, calls)| calls));
         assert!(reach.covered(), "{reach:?}");
         let less = without_one(&reach);
-        assert_eq!(less.len(), 3 + 8 + 5 + 7);
+        assert_eq!(less.len(), 3 + 8 + 5 + 8);
         assert!(less.iter().all(|less| !less.covered()));
     }
 

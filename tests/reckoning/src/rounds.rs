@@ -74,7 +74,8 @@ fn take(book: &mut Book, month: &mut Vec<Entry>, entries: Vec<Entry>) {
     }
 }
 
-/// The whole month, from its opening to its last late receipt.
+/// The whole month, from its opening to its last late receipt. Some payers send their money to their
+/// purse, which is empty before and after.
 pub fn month(random: &mut Random, book: &mut Book) -> Vec<Entry> {
     let period = book.highest + 1;
     let mut month = Vec::new();
@@ -84,7 +85,10 @@ pub fn month(random: &mut Random, book: &mut Book) -> Vec<Entry> {
     for payer in 2..book.n {
         let cents = book.periods.get(&period).map_or(0, |noticed| noticed.most_receipt(payer));
         if cents > 0 {
-            take(book, &mut month, vec![Entry::receipt(period, payer as u8, cents as u64)]);
+            let (payer, cents) = (payer as u8, cents as u64);
+            let early = random.chance(1, 4).then_some(Entry::purse(payer, cents));
+            let receipt = Entry::receipt(period, payer, cents);
+            take(book, &mut month, vec![early.unwrap_or(receipt)]);
         }
     }
     take(book, &mut month, vec![Entry::settle(period)]);
@@ -111,23 +115,29 @@ fn late_receipts(random: &mut Random, book: &mut Book, period: u32, month: &mut 
 #[cfg(test)]
 mod tests {
     use super::*;
+    use crate::codec::SETTLE;
 
-    /// Every entry is accepted, each period leaves, and many rounds are run.
+    /// Every entry is accepted, each period leaves, and many rounds are run, also where purses are
+    /// drawn on.
     #[test]
     fn the_months_run_many_rounds() {
-        let mut most = 0;
+        let (mut most, mut most_with_draws) = (0, 0);
         for seed in 0..200 {
             let mut random = Random::new(seed);
             let n = random.between(4, 64);
             let mut aimed = Book::alone(n);
             let mut book = Book::alone(n);
             for entry in month(&mut random, &mut aimed) {
+                let before = book.purses.clone();
                 let answer = book.apply(&entry, &mut [0; 64]);
                 assert_eq!(answer.number, 0, "seed {seed}: {entry:?}");
                 most = most.max(answer.rounds);
+                if entry.kind == SETTLE && before.iter().any(|&purse| purse > 0) {
+                    most_with_draws = most_with_draws.max(answer.rounds);
+                }
             }
-            assert!(book.periods.is_empty());
+            assert!(book.periods.is_empty() && book.held() == 0);
         }
-        assert!(most >= 6, "{most}");
+        assert!(most >= 6 && most_with_draws >= 4, "{most} {most_with_draws}");
     }
 }

@@ -1,11 +1,13 @@
 //! The trial: from calls to the text that the trial program prints for them.
 
-use crate::book::Book;
+use crate::book::{Book, Make};
 use crate::codec::{self, Entry, Field};
+use crate::draws::Draws;
 use crate::halves::{Half, Halves};
 use crate::making::Making;
 use crate::reach::{Reach, Watch};
 use crate::refusals::ACCEPTED;
+use crate::watch_of_purses;
 use std::io::{self, Read, Write};
 
 /// Each payout word before a call.
@@ -62,9 +64,6 @@ fn take_making(input: &mut impl Read) -> Option<Making> {
     Some(making)
 }
 
-/// Makes a book: the book, and 0 or the refusal's number.
-pub type Make = fn(&Making) -> (Book, u8);
-
 /// What was seen in a trial.
 #[derive(Clone, Debug, Default)]
 pub struct Seen {
@@ -72,6 +71,7 @@ pub struct Seen {
     pub reach: Reach,
     /// In all books.
     pub halves: Halves,
+    pub draws: Draws,
 }
 
 /// The book that calls go to, and what makes the next one.
@@ -80,6 +80,7 @@ struct Trial {
     make: Make,
     watch: Watch,
     halves: Halves,
+    purses: watch_of_purses::Watch,
 }
 
 fn call_read(input: &mut impl Read) -> Option<String> {
@@ -108,12 +109,14 @@ fn call_write(input: &mut impl Read) -> Option<String> {
 impl Trial {
     fn new(make: Make) -> Trial {
         // Before the first book is made, entries come to one without participants.
-        Trial { book: Book::alone(0), make, watch: Watch::default(), halves: Halves::default() }
+        let (watch, halves) = (Watch::default(), Halves::default());
+        Trial { book: Book::alone(0), make, watch, halves, purses: Default::default() }
     }
 
     fn made(&mut self, making: &Making) -> (String, u8) {
         let (book, answer) = (self.make)(making);
         self.book = book;
+        self.purses.new_book();
         (format!("book {answer}"), answer)
     }
 
@@ -135,9 +138,12 @@ impl Trial {
         let mut words = vec![WORD_BEFORE; take(input, 1)? as usize];
         let before = self.book.periods.get(&entry.period).cloned();
         let half = before.as_ref().and_then(|period| Half::of(&entry, &period.sums));
+        let purses = self.book.purses.iter().sum();
+        self.purses.before(&self.book, &entry);
         let answer = self.book.apply(&entry, &mut words);
+        self.purses.after(answer.number);
         self.halves.take(half, answer.number);
-        self.watch.applied(&self.book, before.as_ref(), &entry, answer);
+        self.watch.applied(&self.book, (before.as_ref(), purses), &entry, answer);
         let line = format!("apply {} {} {}", answer.number, answer.rounds, self.book.held());
         Some(with_numbers(line, words))
     }
@@ -171,7 +177,8 @@ pub fn run(input: impl Read, out: &mut impl Write) -> io::Result<()> {
 pub fn lines_by(make: Make, calls: &[u8]) -> (Vec<u8>, Seen) {
     let (mut trial, mut out) = (Trial::new(make), Vec::new());
     trial.run(calls, &mut out).expect("memory takes every byte");
-    (out, Seen { reach: trial.watch.reach, halves: trial.halves })
+    let (reach, draws) = (trial.watch.reach, trial.purses.draws);
+    (out, Seen { reach, halves: trial.halves, draws })
 }
 
 /// The lines for calls that are in memory.

@@ -31,6 +31,7 @@ pub(crate) fn any_manner(random: &mut Random, n: u64) -> Manner {
         periods: random.pick(&[1, 3, 12]),
         amounts: n % 65 + 3,
         step: random.pick(&[1, 3]),
+        purses: random.pick(&[0, 5, 15]),
     }
 }
 

@@ -1,17 +1,15 @@
 //! Trials of books that are made with groups and reserves (02, a): whole months in groups of
 //! every shape, and makings that are refused between them.
 
-use crate::aim::Aim;
 use crate::book::Book;
 use crate::calls;
-use crate::codec::Entry;
 use crate::groupings::{self, Reserves, Shape};
+use crate::maker::Maker;
 use crate::making::Making;
 use crate::makings;
-use crate::period::Stage;
 use crate::random::Random;
 use crate::rounds;
-use crate::trials::{any_apply, any_manner, end};
+use crate::trials::{any_apply, end};
 
 /// Each shape with each kind of reserves three times.
 pub const TRIALS_OF_GROUPS: u64 = 120;
@@ -21,80 +19,7 @@ const BOOKS: u64 = 3;
 
 const EVERY_N: [u64; 12] = [1, 2, 3, 4, 5, 6, 6, 8, 12, 17, 63, 64];
 
-/// The calls of a trial as they are made, aimed by a copy of the book.
-struct Maker {
-    aim: Aim,
-    bytes: Vec<u8>,
-}
-
 impl Maker {
-    fn new(mut random: Random) -> Maker {
-        let manner = any_manner(&mut random, 0);
-        Maker { aim: Aim::new(random, &Making::alone(0), manner), bytes: Vec::new() }
-    }
-
-    /// Makes a book, which later calls go to.
-    fn make(&mut self, making: &Making) {
-        self.bytes.extend(calls::book_in_groups(making));
-        let mut random = self.aim.random.clone();
-        let manner = any_manner(&mut random, making.n);
-        self.aim = Aim::new(random, making, manner);
-    }
-
-    fn apply(&mut self, entry: Entry) {
-        let words = self.aim.book.n as u8 + self.aim.random.pick(&[0, 0, 0, 2]);
-        self.aim.book.apply(&entry, &mut vec![0; words.into()]);
-        self.bytes.extend(calls::apply(&entry, words));
-    }
-
-    fn is_before_notice(&self, number: u32) -> bool {
-        let period = self.aim.book.periods.get(&number);
-        period.is_some_and(|period| matches!(period.stage, Stage::BeforeNotice))
-    }
-
-    /// The most that a receipt of a payer can be; 0 where the period is gone.
-    fn most_receipt(&self, number: u32, payer: usize) -> u64 {
-        let period = self.aim.book.periods.get(&number);
-        period.map_or(0, |period| period.most_receipt(payer) as u64)
-    }
-
-    /// Each payer sends a cent above what it can pay; some pay all of it, or a part.
-    fn receipts(&mut self, number: u32, payers: &[usize]) {
-        for &payer in payers {
-            let most = self.most_receipt(number, payer);
-            self.apply(Entry::receipt(number, payer as u8, most + 1));
-            let part = self.aim.random.between(0, most);
-            let cents = self.aim.random.pick(&[most, most, part, 0]);
-            if cents > 0 {
-                self.apply(Entry::receipt(number, payer as u8, cents));
-            }
-        }
-    }
-
-    /// A whole month, from its opening to late receipts.
-    fn month(&mut self) {
-        let opening = self.aim.opening();
-        let number = opening.period;
-        self.apply(opening);
-        for _ in 0..self.aim.book.n + 3 {
-            let entry = self.aim.energy_or_amount(number);
-            self.apply(entry);
-        }
-        while self.is_before_notice(number) {
-            let entry = self.aim.close(number);
-            self.apply(entry);
-        }
-        let all: Vec<usize> = (0..self.aim.book.n).collect();
-        self.receipts(number, &all);
-        self.apply(Entry::settle(number));
-        // In some months the arrears stay.
-        while self.aim.book.periods.contains_key(&number) && !self.aim.random.chance(1, 5) {
-            let in_arrears = |&payer: &usize| self.most_receipt(number, payer) > 0;
-            let payers: Vec<usize> = all.iter().copied().filter(in_arrears).collect();
-            self.receipts(number, &payers);
-        }
-    }
-
     /// A refused book and some entries to it.
     fn refused(&mut self, right: &Making) {
         let making = makings::any_refused(&mut self.aim.random, right);

@@ -1,13 +1,12 @@
 //! Wrong versions of 02, a. The trials must tell each of them from the right one.
 
-use crate::book::Book;
+use crate::book::{Book, Make};
 use crate::making::{Making, GROUPS, LAST_GROUP, MOST_RESERVE};
 use crate::month::Sums;
 use crate::refusals::{ACCEPTED, FIELD_OUTSIDE, N_REFUSED};
 use crate::retention::{
     g_of, gift, group_sum, is_member, largest_gifts, retention, s_of, Retention,
 };
-use crate::trial::Make;
 
 pub struct Wrong {
     pub name: &'static str,

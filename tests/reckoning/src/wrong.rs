@@ -8,6 +8,9 @@ use crate::period::Stage;
 impl Aim {
     /// An entry that the book should refuse; now and then it is accepted all the same.
     pub fn wrong_entry(&mut self) -> Entry {
+        if self.random.chance(1, 12) {
+            return self.wrong_purse();
+        }
         if self.book.periods.is_empty() {
             return self.wrong_opening_or_period();
         }
@@ -66,13 +69,26 @@ impl Aim {
     }
 
     /// A participant from n to 63 (with n = 64 there is none, and the last one serves).
-    fn wrong_participant(&mut self) -> Entry {
-        let number = self.any_period();
+    fn no_participant(&mut self) -> u8 {
         let n = (self.book.n as u8).min(LAST_PARTICIPANT);
         let between = self.random.between(n.into(), LAST_PARTICIPANT.into()) as u8;
+        self.random.pick(&[n, between, LAST_PARTICIPANT])
+    }
+
+    fn wrong_participant(&mut self) -> Entry {
+        let number = self.any_period();
         let mut entry = self.any_kind_on(number);
-        entry.participant = self.random.pick(&[n, between, LAST_PARTICIPANT]);
+        entry.participant = self.no_participant();
         entry
+    }
+
+    /// Money for a purse about its bound, or for that of a participant that there is not.
+    fn wrong_purse(&mut self) -> Entry {
+        let near = self.purse_near_its_bound().filter(|_| self.random.chance(3, 4));
+        near.unwrap_or_else(|| {
+            let cents = self.any_cents(MOST_CENTS);
+            Entry::purse(self.no_participant(), cents)
+        })
     }
 
     /// An entry that brings a side's total to its bound, a cent below or a cent past it.

@@ -28,10 +28,11 @@ fn write_ends(length: usize) -> Vec<usize> {
     ends
 }
 
-/// Whether a feed had refused entries, settlements and late money.
+/// Whether a feed had refused entries, settlements, some of them with draws on purses, and late money.
 fn various(count: &Count) -> bool {
     let refused: u64 = count.answers[usize::from(ACCEPTED) + 1..].iter().sum();
-    refused > 0 && count.settled_months > 0 && count.late_receipts > 0
+    let drawn = count.draws.drawn();
+    refused > 0 && count.settled_months > 0 && drawn > 0 && count.late_receipts > 0
 }
 
 /// Holds a program to the reckoning over a feed in small writes.
@@ -48,7 +49,9 @@ pub fn small_writes(run: &impl Run) -> bool {
     let enough = written >= LEAST_WRITES && entries >= LEAST_ENTRIES && various(&count);
     let (months, late) = (count.settled_months, count.late_receipts);
     let covered = format!(
-        "{written} writes, {entries} entries, {months} settled months, {late} late receipts"
+        "{written} writes, {entries} entries, {months} settled months, {} draws on purses, {late} \
+         late receipts",
+        count.draws.drawn()
     );
     runs.stands(&covered, enough)
 }

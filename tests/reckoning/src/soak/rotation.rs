@@ -67,8 +67,14 @@ pub struct Rotation {
 
 impl Rotation {
     pub fn new(plan: Plan, seed: u64) -> Rotation {
-        let manner =
-            Manner { scale: Scale::Few, wrong: 0, periods: MOST_PERIODS, amounts: 0, step: 3 };
+        let manner = Manner {
+            scale: Scale::Few,
+            wrong: 0,
+            periods: MOST_PERIODS,
+            amounts: 0,
+            step: 3,
+            purses: 0,
+        };
         let aim = Aim::new(Random::new(seed), &Making::alone(plan.n.into()), manner);
         Rotation { plan, reach: Reach::default(), aim, opened_after: BTreeMap::new() }
     }
