@@ -31,6 +31,8 @@ pub mod malformed;
 pub mod month;
 pub mod months;
 pub mod pairs;
+mod pairs_of_bytes;
+mod pairs_of_purses;
 pub mod period;
 pub mod program;
 pub mod purse;

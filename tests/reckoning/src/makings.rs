@@ -125,6 +125,10 @@ fn tries() -> Vec<u8> {
         (Entry::notice(9), 64),
         (Entry::receipt(9, 63, 1), 64),
         (Entry::settle(9), 64),
+        (Entry::purse(0, 1), 0),
+        (Entry::purse(64, 0), 64),
+        (Entry::purse(63, 1), 64),
+        (Entry::purse(0, 5), 64),
     ];
     let mut bytes: Vec<u8> =
         wrong.iter().flat_map(|(entry, words)| calls::apply(entry, *words)).collect();

@@ -10,10 +10,14 @@
 //! - 6 and 7 with 8 to 14, and 10, 11, 13 or 14 with one of another kind:
 //!   no kind is tested for both; 3 does not hold for kinds 1, 4 and 6.
 //! - 8 with 10 and 11: a period not in the book has no totals.
+//!
+//! Those of reading and writing, and those of purse entries, have files of their own.
 
 use crate::calls;
-use crate::codec::{Entry, LAST_KIND, MOST_CENTS};
+use crate::codec::{Entry, MOST_CENTS};
 use crate::makings;
+use crate::pairs_of_bytes;
+use crate::pairs_of_purses;
 
 /// The pairs covered: an earlier refusal, and each later one that it is put with,
 /// some of them for several kinds of entry.
@@ -25,8 +29,8 @@ pub const COVERED: [(u8, &[u8]); 11] = [
     (3, &[5]),
     // The book; 4 with 3 also where it is made.
     (4, &[3, 5, 6, 8, 12]),
-    (5, &[3, 6, 7, 8, 9, 10, 11, 12, 13, 14]),
-    (3, &[8, 9, 11, 12, 13, 14]),
+    (5, &[3, 6, 7, 8, 9, 10, 11, 12, 13, 14, 15]),
+    (3, &[8, 9, 11, 12, 13, 14, 15]),
     (6, &[7]),
     (8, &[9, 12, 13, 14]),
     (12, &[9, 11, 13]),
@@ -44,7 +48,7 @@ pub struct Pair {
     pub alone: Vec<u8>,
 }
 
-const N: u8 = 3;
+pub(crate) const N: u8 = 3;
 
 /// The period in which payer 0 has arrears after settlement.
 const SETTLED: u32 = 2;
@@ -59,7 +63,7 @@ const SETTLED_LATER: u32 = 6;
 /// A period that left the book.
 const GONE: u32 = 1;
 /// A period never opened.
-const NEVER: u32 = 77;
+pub(crate) const NEVER: u32 = 77;
 
 /// The book that the pairs are built on, with n = 3.
 fn scene() -> Vec<u8> {
@@ -95,9 +99,9 @@ fn applied(entries: &[Entry]) -> Vec<u8> {
 }
 
 /// The entry with both conditions, its payout words, and the entry with the later alone.
-type Row = (&'static str, u8, u8, Entry, u8, Entry);
+pub(crate) type Row = (&'static str, u8, u8, Entry, u8, Entry);
 
-fn pair(before: &[u8], row: Row) -> Pair {
+pub(crate) fn pair(before: &[u8], row: Row) -> Pair {
     let (of, earlier, later, both, words, alone) = row;
     let both = [before, &calls::apply(&both, words)].concat();
     let alone = [before, &calls::apply(&alone, N)].concat();
@@ -210,7 +214,7 @@ fn rows_of_twelve_periods() -> Vec<Row> {
 }
 
 /// 4 with every refusal whose condition a book without participants can meet.
-fn pairs_of_4() -> Vec<Pair> {
+fn pairs_of_4(scene: &[u8]) -> Vec<Pair> {
     let rows = [
         ("energy", 3, energy(BEFORE, 0, 2), N),
         ("amount", 3, by(BEFORE, 0, 0), N),
@@ -223,44 +227,36 @@ fn pairs_of_4() -> Vec<Pair> {
         ("amount", 12, by(BEFORE, 3, 1), N),
         ("receipt", 12, receipt(NOTICED, 63, 1), N),
     ];
-    let scene = scene();
+    with_refused_books(scene, &rows)
+}
+
+/// Entries with so many payout words that a standing book refuses, put to each refused book.
+pub(crate) fn with_refused_books(
+    scene: &[u8],
+    rows: &[(&'static str, u8, Entry, u8)],
+) -> Vec<Pair> {
     let mut pairs = Vec::new();
-    for (of, later, entry, words) in rows {
+    for &(of, later, entry, words) in rows {
         let call = calls::apply(&entry, words);
         for book in makings::refused_books() {
             let both = [book, call.clone()].concat();
-            let alone = [&scene[..], &call].concat();
+            let alone = [scene, &call].concat();
             pairs.push(Pair { of, earlier: 4, later, both, alone });
         }
     }
     pairs
 }
 
-/// Reading checks 1 (no byte), 2, 1, 3; writing checks 3, 5.
-fn pairs_of_reading_and_writing() -> Vec<Pair> {
-    let tier_6 = Entry::amount(1, 0, 1, 6, 1);
-    let right = Entry::amount(1, 0, 1, 5, 1);
-    let reading = |earlier, later, both: &[u8], alone: &[u8]| {
-        let (both, alone) = (calls::read(0, both), calls::read(0, alone));
-        Pair { of: "reading", earlier, later, both, alone }
-    };
-    let mut pairs: Vec<Pair> =
-        [0, LAST_KIND + 1, 255].iter().map(|&kind| reading(2, 1, &[kind], &[1])).collect();
-    pairs.push(reading(1, 3, &tier_6.bytes()[..15], &tier_6.bytes()));
-    let (both, alone) = (calls::write(&tier_6, 15), calls::write(&right, 15));
-    pairs.push(Pair { of: "writing", earlier: 3, later: 5, both, alone });
-    pairs
-}
-
 /// Every pair, with its calls.
 pub fn pairs() -> Vec<Pair> {
-    let mut pairs = pairs_of_reading_and_writing();
-    pairs.extend(pairs_of_4());
+    let mut pairs = pairs_of_bytes::pairs();
     let (scene, twelve) = (scene(), scene_of_twelve());
+    pairs.extend(pairs_of_4(&scene));
     for rows in [rows_of_5(), rows_of_3(), rows_of_the_operator_and_payer()] {
         pairs.extend(rows.into_iter().map(|row| pair(&scene, row)));
     }
     pairs.extend(rows_of_twelve_periods().into_iter().map(|row| pair(&twelve, row)));
+    pairs.extend(pairs_of_purses::pairs(&scene));
     pairs.extend(makings::pairs_of_making());
     pairs
 }
