@@ -16,6 +16,7 @@ pub mod demand3;
 pub mod draws;
 mod early_money;
 pub mod energies;
+pub mod example_feeds;
 pub mod feeds;
 pub mod groupings;
 pub mod halves;

@@ -1,7 +1,7 @@
 //! The reckoning as a program; `reckoning` alone prints its uses.
 
 use reckoning::soak::Plan;
-use reckoning::{compare, damage, feeds, listing, malformed, pairs, soak, trial};
+use reckoning::{compare, damage, example_feeds, feeds, listing, malformed, pairs, soak, trial};
 use std::io::{self, BufReader, BufWriter, Write};
 use std::process::ExitCode;
 
@@ -11,6 +11,7 @@ const USES: &str = "uses:
   reckoning listing < FEED
   reckoning trial < CALLS
   reckoning feed SEED KIND > FEED
+  reckoning example month-a|purse > FEED
   reckoning pairs
   reckoning soak --listing PATH --n N --entries COUNT --months COUNT
   reckoning malformed --listing PATH --feeds COUNT
@@ -43,6 +44,13 @@ fn print(text: impl FnOnce(&mut BufWriter<io::Stdout>) -> io::Result<()>) -> Exi
 fn print_feed(seed: &str, kind: &str) -> ExitCode {
     let seed = seed.parse().ok();
     match seed.and_then(|seed| feeds::feed(seed, kind)) {
+        Some(feed) => print(|out| out.write_all(&feed)),
+        None => print_uses(),
+    }
+}
+
+fn print_example(name: &str) -> ExitCode {
+    match example_feeds::example(name) {
         Some(feed) => print(|out| out.write_all(&feed)),
         None => print_uses(),
     }
@@ -84,6 +92,7 @@ fn main() -> ExitCode {
         ["trial"] => print(|out| trial::run(BufReader::new(io::stdin()), out)),
         ["pairs"] => print(print_pairs),
         ["feed", seed, kind] => print_feed(seed, kind),
+        ["example", name] => print_example(name),
         _ => print_uses(),
     }
 }

@@ -5,6 +5,7 @@ use crate::by_hand::Case;
 use crate::cases_of_older_arrears;
 use crate::cases_of_purses;
 use crate::codec::Entry;
+use crate::example_feeds;
 use crate::groupings;
 use crate::maker::Maker;
 use crate::making::Making;
@@ -84,6 +85,7 @@ pub fn trial_of_purses(seed: u64) -> Vec<u8> {
 pub fn every_case() -> Vec<Case> {
     let mut cases = cases_of_purses::cases();
     cases.extend(cases_of_older_arrears::cases());
+    cases.push(example_feeds::purse());
     cases
 }
 
