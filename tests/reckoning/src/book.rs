@@ -80,8 +80,13 @@ impl Book {
         Book { n, making, ways: ways::RIGHT, highest: 0, periods, purses: vec![0; n] }
     }
 
-    /// The cents held in the book, purses among them.
+    /// The cents held in the book.
     pub fn held(&self) -> u128 {
+        (self.ways.held)(self)
+    }
+
+    /// Those of its periods and its purses.
+    pub(crate) fn all_held(&self) -> u128 {
         let in_periods: u128 = self.periods.values().map(Period::held).sum();
         in_periods + self.purses.iter().sum::<u128>()
     }
@@ -104,6 +109,11 @@ impl Book {
             barred: self.barred(number, i),
         };
         (0..self.n).map(payer).collect()
+    }
+
+    /// What each payer has drawn when a noticed period settles.
+    pub(crate) fn drawn(&self, number: u32) -> Vec<u128> {
+        self.payers(number).iter().map(Payer::drawn).collect()
     }
 
     /// The refusal that an entry gets with so many payout words, if any.
@@ -132,10 +142,12 @@ impl Book {
     }
 
     fn refusal_of_purse(&self, entry: &Entry) -> Option<u8> {
-        let Some(purse) = self.purses.get(usize::from(entry.participant)) else {
+        let participant = usize::from(entry.participant);
+        if participant >= self.n {
             return Some(NO_PARTICIPANT);
-        };
-        (purse + u128::from(entry.cents) > MOST_PURSE).then_some(PURSE_PASSES_BOUND)
+        }
+        let purse = self.purses[participant] + u128::from(entry.cents);
+        (purse > MOST_PURSE).then_some(PURSE_PASSES_BOUND)
     }
 
     fn refusal_of_other_kinds(&self, entry: &Entry) -> Option<u8> {
@@ -166,6 +178,11 @@ impl Book {
 
     /// Applies an entry; an accepted one sets the first n payout words.
     pub fn apply(&mut self, entry: &Entry, words: &mut [u64]) -> Answer {
+        (self.ways.applied)(self, entry, words)
+    }
+
+    /// Applies an entry as the rules do.
+    pub(crate) fn applied(&mut self, entry: &Entry, words: &mut [u64]) -> Answer {
         if let Some(number) = self.refusal(entry, words.len()) {
             return Answer { number, rounds: 0 };
         }
@@ -195,7 +212,7 @@ impl Book {
     /// What an accepted entry does that names a period in the book.
     fn accept_on_period(&mut self, entry: &Entry) -> (Vec<u128>, u64) {
         if entry.kind == SETTLE {
-            let drawn: Vec<u128> = self.payers(entry.period).iter().map(Payer::drawn).collect();
+            let drawn = (self.ways.drawn)(self, entry.period);
             self.draw(entry.period, &drawn);
         }
         let nothing = vec![0; self.n];
@@ -222,7 +239,7 @@ impl Book {
     }
 
     /// Moves cents from each purse into a period that is not settled, as receipts.
-    fn draw(&mut self, number: u32, drawn: &[u128]) {
+    pub(crate) fn draw(&mut self, number: u32, drawn: &[u128]) {
         let period = self.periods.get_mut(&number).expect("in the book");
         for (payer, cents) in drawn.iter().enumerate() {
             self.purses[payer] -= cents;

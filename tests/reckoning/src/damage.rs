@@ -1,17 +1,16 @@
-//! Shows that the comparison works: right outputs are damaged, and wrong versions
-//! of the rules are tried, and each must be reported.
+//! Shows that the comparison works: right outputs are damaged, and each damage must be reported.
 
-use crate::cases_of_halves;
 use crate::demand3;
+use crate::example_feeds;
 use crate::feeds;
 use crate::judge::{judge_listing, judge_trial};
 use crate::listing::listing;
 use crate::pairs;
+use crate::selftest::Report;
 use crate::trial;
-use crate::trials::{self, TRIALS};
+use crate::trials;
 use crate::trials_of_groups::{self, Named};
-use crate::versions::{self, Wrong};
-use crate::versions_of_halves;
+use crate::trials_of_purses;
 
 /// Changes the lines of an output; false if there is nothing it could damage.
 type Change = fn(&mut Vec<String>) -> bool;
@@ -85,12 +84,34 @@ fn refuse_accepted(lines: &mut [String]) -> bool {
     raise(lines, "", 1, fits)
 }
 
+/// Refuses the last accepted entry after which more money is held.
+fn refuse_money(lines: &mut [String]) -> bool {
+    let entries: Vec<usize> = (0..lines.len()).filter(|&at| is_entry(&words(&lines[at]))).collect();
+    let held = |at: usize| words(&lines[at])[3].parse::<u64>().expect("a number");
+    let rises = |pair: &&[usize]| held(pair[0]) < held(pair[1]);
+    let Some(at) = entries.windows(2).rfind(rises).map(|pair| pair[1]) else {
+        return false;
+    };
+    lines[at] = lines[at].replacen(" 0 ", " 15 ", 1);
+    true
+}
+
+/// Accepts the last receipt or purse entry that was refused for its cents or its payer.
+fn accept_refused(lines: &mut [String]) -> bool {
+    let refused = |line: &&mut String| {
+        let words = words(line);
+        is_entry(&words) && ["13", "14", "15"].contains(&words[1].as_str())
+    };
+    let line = lines.iter_mut().rev().find(refused);
+    line.map(|line| *line = format!("{} 0 0 {}", words(line)[0], words(line)[3])).is_some()
+}
+
 /// Turns a refusal into another.
 fn change_refusal(lines: &mut [String]) -> bool {
     raise(lines, "", 1, |words| is_entry(words) && words[1] == "8")
 }
 
-const OF_LISTING: [Damage; 11] = [
+const OF_LISTING: [Damage; 13] = [
     both("a payout changed by a cent", |l| raise(l, "pay ", 2, is_pay)),
     both("a payout given to the next participant", |l| raise(l, "pay ", 1, is_pay)),
     both("two payouts swapped", |l| swap_payouts(l)),
@@ -100,6 +121,8 @@ const OF_LISTING: [Damage; 11] = [
     both("paid changed", |l| raise(l, "", 2, is_entry)),
     by_text("an accepted entry refused", |l| refuse_accepted(l)),
     by_text("a refusal changed to another", |l| change_refusal(l)),
+    both("money that came in refused", |l| refuse_money(l)),
+    both("money that was refused accepted", |l| accept_refused(l)),
     both("an entry's number changed", |l| raise(l, "", 0, is_entry)),
     both("the header lost", |l| !l.remove(0).is_empty()),
 ];
@@ -123,42 +146,32 @@ fn damaged(right: &[u8], damage: &Damage) -> Option<Vec<u8>> {
     done.then(|| lines.iter().flat_map(|line| format!("{line}\n").into_bytes()).collect())
 }
 
-#[derive(Default)]
-struct Report {
-    made: u64,
-    reported: u64,
-}
-
-impl Report {
-    fn take(&mut self, name: &str, what: Option<String>) {
-        self.made += 1;
-        match what {
-            Some(what) => {
-                self.reported += 1;
-                println!("reported: {name}: {what}");
-            }
-            None => println!("NOT REPORTED: {name}"),
-        }
-    }
-
-    fn all(&self) -> bool {
-        self.made == self.reported
-    }
-}
-
 /// Feeds whose last months were settled and paid.
 fn chosen_feeds() -> Vec<(String, Vec<u8>)> {
-    let mut chosen = vec![("month A".to_string(), feeds::month_a())];
-    for (seed, kind) in [(2, "few"), (5, "hundreds"), (3, "millions"), (1, "wide"), (1, "twelve")] {
+    let mut chosen = vec![
+        ("month A".to_string(), feeds::month_a()),
+        ("purses".to_string(), example_feeds::purse().feed()),
+    ];
+    for (seed, kind) in [
+        (2, "few"),
+        (5, "hundreds"),
+        (3, "millions"),
+        (1, "wide"),
+        (1, "twelve"),
+        (1, "purses"),
+        (4, "purses"),
+    ] {
         chosen
             .push((format!("{kind} {seed}"), feeds::feed(seed, kind).expect("a kind that exists")));
     }
     chosen
 }
 
-fn damage_listings(report: &mut Report) -> bool {
+/// Damages listings; true if the right ones stand and each damage was made.
+pub fn damage_listings(report: &mut Report) -> bool {
     let mut right_stands = true;
     let mut used = [0; OF_LISTING.len()];
+    let examples = [feeds::month_a(), example_feeds::purse().feed()];
     for (name, feed) in chosen_feeds() {
         let right = listing(&feed);
         right_stands &= judge_listing(&feed, &right).is_ok();
@@ -169,7 +182,7 @@ fn damage_listings(report: &mut Report) -> bool {
             used[place] += 1;
             let name = format!("listing of {name}: {}", damage.name);
             report.take(&name, judge_listing(&feed, &found).err());
-            if damage.by_demand_3 && feed == feeds::month_a() {
+            if damage.by_demand_3 && examples.contains(&feed) {
                 report.take(
                     &format!("{name}, by demand 3"),
                     demand3::check_listing(&feed, &found).err(),
@@ -189,7 +202,8 @@ fn ends_damaged(right: &[u8]) -> [(&'static str, Vec<u8>); 2] {
     [("the last end of line lost", shorter), ("a line too many", [right, b"\n"].concat())]
 }
 
-fn damage_trials(report: &mut Report) -> bool {
+/// Damages what trials print; true as for listings.
+pub fn damage_trials(report: &mut Report) -> bool {
     let mut right_stands = true;
     let mut used = [0; OF_TRIAL.len()];
     let mut chosen: Vec<Named> =
@@ -197,6 +211,7 @@ fn damage_trials(report: &mut Report) -> bool {
     let of_groups =
         |seed| (format!("of groups seed {seed}"), trials_of_groups::trial_of_groups(seed));
     chosen.extend((0..3).map(of_groups));
+    chosen.extend(trials_of_purses::every_trial().take(3));
     chosen.extend(
         pairs::pairs().into_iter().take(6).map(|pair| (format!("pair of {}", pair.of), pair.both)),
     );
@@ -212,55 +227,4 @@ fn damage_trials(report: &mut Report) -> bool {
         }
     }
     right_stands && used.iter().all(|&count| count > 0)
-}
-
-/// How many trials tell a wrong version from the right one, and the first of them; nothing if
-/// none does.
-fn told(trials: &[Named], wrong: &Wrong) -> Option<String> {
-    let judged = |(name, calls): &Named| {
-        let found = trial::lines_by(wrong.make, calls).0;
-        judge_trial(calls, &found).err().map(|what| format!("{name}: {what}"))
-    };
-    let told: Vec<String> = trials.iter().filter_map(judged).collect();
-    told.first().map(|first| format!("by {} of {} trials; {first}", told.len(), trials.len()))
-}
-
-/// The trials that wrong versions of 02, b, are tried on.
-fn trials_with_halves() -> Vec<Named> {
-    let cases = cases_of_halves::cases().into_iter();
-    let cases = cases.map(|case| (format!("trial {}", case.name()), case.trial()));
-    let seeds = (0..TRIALS).map(|seed| (format!("trial seed {seed}"), trials::trial(seed)));
-    cases.chain(seeds).collect()
-}
-
-fn try_versions(report: &mut Report, letter: char, versions: &[Wrong], trials: &[Named]) {
-    for wrong in versions {
-        report.take(&format!("version of {letter}: {}", wrong.name), told(trials, wrong));
-    }
-}
-
-/// Tries each wrong version of a request on trials that are made for it.
-fn try_all_versions() -> Report {
-    let mut report = Report::default();
-    let of_groups: Vec<Named> = trials_of_groups::every_trial().collect();
-    try_versions(&mut report, 'a', &versions::WRONG, &of_groups);
-    try_versions(&mut report, 'b', &versions_of_halves::WRONG, &trials_with_halves());
-    report
-}
-
-/// Damages right outputs and tries wrong versions; true only if each was reported and no right
-/// output was.
-pub fn selftest() -> bool {
-    let mut report = Report::default();
-    let listings = damage_listings(&mut report);
-    let trials = damage_trials(&mut report);
-    if !(listings && trials) {
-        println!("a right output was reported, or a damage was never made");
-    }
-    let versions = try_all_versions();
-    println!(
-        "selftest: {} damages, {} reported; {} wrong versions, {} told",
-        report.made, report.reported, versions.made, versions.reported
-    );
-    listings && trials && report.all() && versions.all()
 }

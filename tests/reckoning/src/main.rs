@@ -1,7 +1,7 @@
 //! The reckoning as a program; `reckoning` alone prints its uses.
 
 use reckoning::soak::Plan;
-use reckoning::{compare, damage, example_feeds, feeds, listing, malformed, pairs, soak, trial};
+use reckoning::{compare, example_feeds, feeds, listing, malformed, pairs, selftest, soak, trial};
 use std::io::{self, BufReader, BufWriter, Write};
 use std::process::ExitCode;
 
@@ -87,7 +87,7 @@ fn main() -> ExitCode {
             Ok(feeds) => status(malformed::malformed(listing, feeds)),
             Err(_) => print_uses(),
         },
-        ["selftest"] => status(damage::selftest()),
+        ["selftest"] => status(selftest::selftest()),
         ["listing"] => print(|out| listing::list(io::stdin(), out)),
         ["trial"] => print(|out| trial::run(BufReader::new(io::stdin()), out)),
         ["pairs"] => print(print_pairs),

@@ -8,9 +8,12 @@ use crate::retention::{
     g_of, gift, group_sum, is_member, largest_gifts, retention, s_of, Retention,
 };
 
+#[derive(Clone, Copy)]
 pub struct Wrong {
     pub name: &'static str,
     pub make: Make,
+    /// Whether demand 3, reckoned from the lines of listings alone, must tell it too.
+    pub by_demand_3: bool,
 }
 
 /// The right book, but for how it reckons A.
@@ -179,8 +182,14 @@ fn refused_book_stands(making: &Making) -> (Book, u8) {
     }
 }
 
+/// A version that trials must tell.
 pub(crate) const fn wrong(name: &'static str, make: Make) -> Wrong {
-    Wrong { name, make }
+    Wrong { name, make, by_demand_3: false }
+}
+
+/// A version that trials, and demand 3 from listings, must each tell.
+pub(crate) const fn unbalanced(name: &'static str, make: Make) -> Wrong {
+    Wrong { name, make, by_demand_3: true }
 }
 
 pub const WRONG: [Wrong; 19] = [

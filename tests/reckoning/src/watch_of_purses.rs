@@ -60,7 +60,7 @@ impl Found {
     fn in_book(book: &Book, entry: &Entry) -> Option<Found> {
         let (participant, cents) = (usize::from(entry.participant), u128::from(entry.cents));
         if entry.kind == PURSE {
-            let purse = *book.purses.get(participant)?;
+            let purse = *book.purses[..book.n].get(participant)?;
             let arrears = book.periods.values().any(|period| period.arrears_of(participant) > 0);
             let stages = stages(book);
             return Some(Found::PurseEntry { participant, purse, cents, stages, arrears });
