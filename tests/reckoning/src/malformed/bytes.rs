@@ -1,7 +1,7 @@
 //! Feeds with every value in every byte of an entry, and feeds cut after every byte.
 
 use crate::calls;
-use crate::codec::Entry;
+use crate::codec::{Entry, MOST_CENTS};
 
 /// With the first there are participants that the book does not have, with the second none.
 pub const EVERY_N: [u8; 2] = [3, 64];
@@ -9,13 +9,17 @@ pub const EVERY_N: [u8; 2] = [3, 64];
 const BLOCK: usize = 1 << 16;
 const ABOUT: usize = 40;
 
-/// A book with period 2 settled with arrears, 3 after its notice and 4 before it.
+/// A book with period 2 settled with arrears of payer 0, 3 after its notice and 4 before it. Both
+/// payers have money in their purse, and that of participant 1 is 100 cents below its bound.
 pub fn scene() -> Vec<Entry> {
     let mut entries = calls::month_a_to_settle(2);
     entries.extend(calls::month_a_to_notice(3));
     entries.push(Entry::open(4));
     entries.push(Entry::amount(4, 0, 0, 0, 100));
     entries.push(Entry::amount(4, 1, 1, 5, 100));
+    entries.push(Entry::purse(0, 600));
+    entries.push(Entry::purse(2, 34));
+    entries.push(Entry::purse(1, MOST_CENTS - 100));
     entries
 }
 
@@ -30,6 +34,7 @@ pub fn acts() -> Vec<Entry> {
         Entry::notice(4),
         Entry::receipt(3, 2, 300),
         Entry::receipt(2, 0, 100),
+        Entry::purse(1, 40),
         Entry::settle(3),
     ]
 }
@@ -73,6 +78,7 @@ pub fn every_cut() -> Vec<Vec<u8>> {
         while long.len() < BLOCK + ABOUT {
             long.extend(Entry::energy(4, 0, 0, 5_000, 9_000).bytes());
             long.extend(Entry::receipt(3, 2, 1).bytes());
+            long.extend(Entry::purse(0, 1).bytes());
         }
         let lengths = BLOCK - ABOUT..=BLOCK + ABOUT;
         feeds.extend(lengths.map(|length| long[..length].to_vec()));

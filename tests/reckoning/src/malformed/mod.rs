@@ -127,12 +127,13 @@ struct Feeds {
 }
 
 fn judge_malformed(feeds: &Feeds, run: &impl Run) -> bool {
-    let unreadable = [ACCEPTED, TOO_FEW_BYTES, KIND_UNKNOWN, FIELD_OUTSIDE];
-    let every_byte = judge_listed("every byte", &feeds.every_byte, &unreadable, run);
+    // Values about a bound make a purse pass its own.
+    let seen = [ACCEPTED, TOO_FEW_BYTES, KIND_UNKNOWN, FIELD_OUTSIDE, PURSE_PASSES_BOUND];
+    let every_byte = judge_listed("every byte", &feeds.every_byte, &seen, run);
     let cuts = judge_listed("every cut", &feeds.every_cut, &[ACCEPTED, TOO_FEW_BYTES], run);
     let random = judge_all(feeds.random, |number| noise::feed(number as u64), run);
     random.print("random bytes");
-    every_byte && cuts && random.stands(&unreadable) && random.stands(&[N_REFUSED])
+    every_byte && cuts && random.stands(&seen) && random.stands(&[N_REFUSED])
 }
 
 /// Holds the listing at a path to the reckoning over malformed feeds, so many of them of

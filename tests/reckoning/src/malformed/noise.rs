@@ -1,7 +1,7 @@
 //! Feeds of random bytes, from mere noise to right feeds with a few bytes changed.
 
 use crate::aim::{Aim, Manner, Scale};
-use crate::codec::{self, Entry, Field, MOST_CENTS, MOST_PRICE, MOST_QUANTITY, OPEN, SETTLE};
+use crate::codec::{self, Entry, Field, LAST_KIND, MOST_CENTS, MOST_PRICE, MOST_QUANTITY, OPEN};
 use crate::making::Making;
 use crate::random::Random;
 
@@ -35,7 +35,7 @@ fn uniform(random: &mut Random, n: u8) -> Vec<u8> {
 fn small(random: &mut Random, n: u8) -> Vec<u8> {
     let mut feed = vec![n];
     for _ in 0..random.below(160) {
-        let kind = random.below(7) as u8;
+        let kind = random.below(u64::from(LAST_KIND) + 1) as u8;
         feed.push(random.pick(&[0, 0, 0, 0, kind, kind, kind, 1, 63, 64, 255]));
     }
     feed
@@ -63,7 +63,7 @@ fn value(random: &mut Random, field: Field) -> u64 {
 fn entries_about_bounds(random: &mut Random, n: u8) -> Vec<u8> {
     let mut feed = vec![n];
     for _ in 0..random.below(24) {
-        let kind = random.between(OPEN.into(), SETTLE.into()) as u8;
+        let kind = random.between(OPEN.into(), LAST_KIND.into()) as u8;
         let mut entry = Entry { kind, ..Entry::default() };
         for &field in codec::layout(kind) {
             entry.set(field, value(random, field));
@@ -95,7 +95,7 @@ fn changed(random: &mut Random, n: u8) -> Vec<u8> {
 fn change(random: &mut Random, feed: &mut Vec<u8>) {
     let place = random.between(1, feed.len() as u64) as usize;
     let any = random.any() as u8;
-    let byte = random.pick(&[any, any, 0, 1, 6, 7, 64, 255]);
+    let byte = random.pick(&[any, any, 0, 1, LAST_KIND, LAST_KIND + 1, 64, 255]);
     match random.below(4) {
         0 => feed.insert(place, byte),
         _ if place == feed.len() => feed.push(byte),
