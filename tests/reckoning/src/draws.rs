@@ -120,7 +120,12 @@ impl Draws {
 
     /// Whether each was seen.
     pub fn covered(&self) -> bool {
-        self.counts.iter().all(|&count| count > 0)
+        self.covered_but_for(&[])
+    }
+
+    /// Whether each was seen but for some.
+    pub fn covered_but_for(&self, some: &[Sight]) -> bool {
+        Sight::ALL.iter().all(|sight| some.contains(sight) || self.of(*sight) > 0)
     }
 
     pub fn print(&self, of: &str) {
@@ -147,6 +152,7 @@ mod tests {
             let mut less = all.clone();
             less.counts[sight as usize] = 0;
             assert!(!less.covered(), "{}", sight.name());
+            assert!(less.covered_but_for(&[sight]));
             less.see(sight);
             assert_eq!(less, all);
         }

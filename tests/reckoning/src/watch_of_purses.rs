@@ -11,6 +11,7 @@ use std::collections::BTreeSet;
 use std::ops::Bound::{Excluded, Unbounded};
 
 /// A payer at a settle entry, and arrears beside its own older ones.
+#[derive(Clone, Debug)]
 struct Drawer {
     payer: Payer,
     /// It has some in a later period.
@@ -20,6 +21,7 @@ struct Drawer {
 }
 
 /// What an entry finds in the book, if it has to do with purses.
+#[derive(Clone, Debug)]
 enum Found {
     PurseEntry { participant: usize, purse: u128, cents: u128, stages: Vec<Sight>, arrears: bool },
     Settling { period: u32, drawers: Vec<Drawer> },
@@ -81,7 +83,7 @@ impl Found {
 }
 
 /// Watches the entries that come to a book, and its answers.
-#[derive(Default)]
+#[derive(Clone, Debug, Default)]
 pub struct Watch {
     pub draws: Draws,
     /// What the entry that is being applied finds.

@@ -1,5 +1,6 @@
 //! A long feed, listed by a program and by the reckoning at the same time.
 
+mod early_money;
 mod memory;
 mod rotation;
 mod streams;
@@ -10,7 +11,8 @@ pub use rotation::Plan;
 
 use crate::book::{MOST_PARTICIPANTS, MOST_PERIODS};
 use crate::compare::print_answers;
-use crate::refusals::{EARLIER_ARREARS, NOT_ABOVE_HIGHEST, NO_PARTICIPANT};
+use crate::draws::Sight;
+use crate::refusals::{NOT_ABOVE_HIGHEST, NO_PARTICIPANT, PURSE_PASSES_BOUND};
 use memory::Memory;
 use rotation::{Reach, Rotation};
 use std::process::{Child, Command, Stdio};
@@ -21,6 +23,9 @@ use std::time::Duration;
 use streams::{Compared, Watch};
 
 const SEED: u64 = 400;
+/// Not required of purses: the periods settle in order, so that none that settles has a later one
+/// with arrears; and a payer mostly pays all of a month by receipts, or nothing.
+const NOT_REQUIRED: [Sight; 2] = [Sight::LaterArrears, Sight::BesideReceipts];
 /// A program that prints nothing for so long is ended.
 const LONGEST: Duration = Duration::from_secs(60);
 
@@ -101,14 +106,15 @@ fn covered(plan: &Plan, reach: &Reach) -> bool {
         let cannot_be = number == NO_PARTICIPANT && u64::from(plan.n) == MOST_PARTICIPANTS;
         cannot_be || count.answers[usize::from(number)] > 0
     };
-    let enough = (NOT_ABOVE_HIGHEST..=EARLIER_ARREARS).all(refused)
+    let enough = (NOT_ABOVE_HIGHEST..=PURSE_PASSES_BOUND).all(refused)
         && reach.months_opened == plan.months
         && reach.most_periods == MOST_PERIODS
         && count.settled_months > count.months_with_arrears
         && count.months_with_arrears > 0
         && count.months_left > 0
         && count.late_receipts > 0
-        && count.halves.both_ways();
+        && count.halves.both_ways()
+        && reach.purses.draws.covered_but_for(&NOT_REQUIRED);
     if !enough {
         println!("too little was compared");
     }
@@ -129,6 +135,7 @@ fn print_reach(reach: &Reach) {
     );
     println!("late receipts: {}", count.late_receipts);
     count.halves.print("the feed");
+    reach.purses.draws.print("the feed");
 }
 
 fn judge_memory(memory: &Memory) -> bool {

@@ -3,13 +3,14 @@
 
 use crate::aim::{Aim, Manner, Scale};
 use crate::book::MOST_PERIODS;
-use crate::codec::{Entry, OPEN, RECEIPT, SETTLE};
+use crate::codec::{Entry, Field, OPEN, RECEIPT, SETTLE};
 use crate::demand3::Count;
 use crate::halves::Half;
 use crate::making::Making;
 use crate::period::Stage;
 use crate::random::Random;
 use crate::refusals::ACCEPTED;
+use crate::watch_of_purses::Watch;
 use std::collections::BTreeMap;
 
 /// Ages of a period in hundredths of a month. Its sides are filled to their
@@ -20,6 +21,8 @@ const SETTLE_DUE: u64 = 400;
 /// The last arrears are paid right before the twelfth month after the opening.
 const LEAVING_DUE: u64 = 1_190;
 
+/// So many entries, money for purses, come before the first opening.
+const EARLIEST: u64 = 3;
 /// One entry of so many is meant to be refused.
 const WRONG: u64 = 10;
 /// How often such an entry is proposed anew when the book would accept it.
@@ -55,14 +58,20 @@ pub struct Reach {
     pub months_opened: u64,
     pub most_periods: usize,
     pub count: Count,
+    pub purses: Watch,
 }
 
 pub struct Rotation {
     pub plan: Plan,
     pub reach: Reach,
-    aim: Aim,
+    pub(super) aim: Aim,
     /// How many entries there were when each period in the book was opened.
     opened_after: BTreeMap<u32, u64>,
+}
+
+/// How large the amounts of a period are.
+pub(super) fn scale_of(number: u32) -> Scale {
+    SCALES[number as usize % SCALES.len()]
 }
 
 impl Rotation {
@@ -73,13 +82,16 @@ impl Rotation {
             periods: MOST_PERIODS,
             amounts: 0,
             step: 3,
-            purses: 0,
+            purses: 1,
         };
         let aim = Aim::new(Random::new(seed), &Making::alone(plan.n.into()), manner);
         Rotation { plan, reach: Reach::default(), aim, opened_after: BTreeMap::new() }
     }
 
     fn propose(&mut self) -> Entry {
+        if self.reach.entries < EARLIEST {
+            return self.aim.early_money();
+        }
         let wrong = self.aim.random.chance(1, WRONG).then(|| self.refused());
         let entry = wrong.flatten().or_else(|| self.due()).or_else(|| self.by_share());
         // Period 0 cannot be opened: what is left when nothing else fits.
@@ -141,20 +153,24 @@ impl Rotation {
         Some(Entry::receipt(number, payer as u8, most as u64))
     }
 
-    /// A receipt, a late one, or energy or an amount, each by its share of a month's entries.
+    /// A receipt, a late one, money for a purse, or energy or an amount, each by its share of a
+    /// month's entries.
     fn by_share(&mut self) -> Option<Entry> {
         let (n, month) = (u64::from(self.plan.n), self.plan.entries_of_a_month());
         let receipts = (2 * n).min(month / 8);
         let late = (8 * n).min(month / 4);
+        let early = n.min(month / 16);
         let draw = self.aim.random.below(month);
-        let receipt = if draw < receipts {
+        let money = if draw < receipts {
             self.receipt()
         } else if draw < receipts + late {
             self.late_receipt()
+        } else if draw < receipts + late + early {
+            Some(self.early_money())
         } else {
             None
         };
-        receipt.or_else(|| self.energy_or_amount())
+        money.or_else(|| self.energy_or_amount())
     }
 
     /// A period in the book at a stage.
@@ -208,7 +224,7 @@ impl Rotation {
 
     fn energy_or_amount(&mut self) -> Option<Entry> {
         let number = self.any_at(|stage| matches!(stage, Stage::BeforeNotice))?;
-        let scale = SCALES[number as usize % SCALES.len()];
+        let scale = scale_of(number);
         let early = scale == Scale::Bound && self.age(number) < FULL_FROM;
         self.aim.manner.scale = if early { Scale::Millions } else { scale };
         Some(self.aim.energy_or_amount(number))
@@ -219,11 +235,13 @@ impl Rotation {
         let before = self.aim.book.periods.get(&entry.period);
         let was_settled = before.is_some_and(|it| matches!(it.stage, Stage::Settled { .. }));
         let half = before.and_then(|period| Half::of(entry, &period.sums));
+        self.reach.purses.before(&self.aim.book, entry);
         let answer = self.aim.book.apply(entry, &mut vec![0; self.aim.book.n]).number;
+        self.reach.purses.after(answer);
         self.reach.entries += 1;
         self.reach.count.answers[usize::from(answer)] += 1;
         self.reach.count.halves.take(half, answer);
-        if answer == ACCEPTED {
+        if answer == ACCEPTED && entry.has(Field::Period) {
             self.count(entry, was_settled);
         }
     }

@@ -2,7 +2,8 @@
 
 use super::rotation::{Plan, Reach, Rotation};
 use super::streams::{hold, Compared, Watch};
-use super::{covered, SEED};
+use super::{covered, NOT_REQUIRED, SEED};
+use crate::draws::Sight;
 use crate::listing;
 use std::io::{self, BufWriter, Write};
 use std::thread;
@@ -90,6 +91,17 @@ fn a_feed_without_refusals_or_late_money_covers_too_little() {
     let mut rotation = Rotation::new(short, SEED);
     assert_eq!(rotation.by_ref().count(), 300);
     assert!(!covered(&short, &rotation.reach));
+}
+
+#[test]
+fn a_feed_in_which_something_of_purses_is_never_seen_covers_too_little() {
+    let mut rotation = Rotation::new(PLAN, SEED);
+    rotation.by_ref().for_each(drop);
+    for sight in Sight::ALL {
+        let mut less = rotation.reach.clone();
+        less.purses.draws.counts[sight as usize] = 0;
+        assert_eq!(covered(&PLAN, &less), NOT_REQUIRED.contains(&sight), "{}", sight.name());
+    }
 }
 
 #[test]
