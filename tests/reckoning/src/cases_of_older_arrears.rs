@@ -72,8 +72,8 @@ fn later_arrears() -> Vec<Step> {
 }
 
 /// What is unpaid in period 1, which is not settled, is no arrears: period 2 draws 600 of 700, and
-/// then period 1 the rest. There 500 are in arrears: 500 are available, 400 after tier 1: 311 of 700
-/// and 88 of 200, and paid are 411 and 134 − 112.
+/// then period 1 the rest. There 500 are in arrears: 500 are available, 400 after tier 1: 311 of
+/// 700 and 88 of 200, and paid are 411 and 134 − 112.
 fn older_period_not_settled() -> Vec<Step> {
     let mut steps = month_a(1, 0);
     steps.extend(month_a(2, 0));

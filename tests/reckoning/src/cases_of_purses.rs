@@ -1,5 +1,5 @@
-//! Cases of purses (02, c) by hand: how much a settlement draws, money that comes in at every stage,
-//! and the bound of a purse. Payers have no arrears in older periods.
+//! Cases of purses (02, c) by hand: how much a settlement draws, money that comes in at every
+//! stage, and the bound of a purse. Payers have no arrears in older periods.
 
 use crate::by_hand::{month_a, pays, refused, stands, Case, Step};
 use crate::codec::{Entry, MOST_CENTS};
@@ -7,8 +7,8 @@ use crate::refusals::*;
 
 const BOUND: u128 = MOST_CENTS as u128;
 
-/// Of payer 0's 600 cents 300 come before the period is opened. From the settle entry on it is month
-/// A of 01, where they come as a receipt: 566 and 67, then 78 and 22, then 156 and 45.
+/// Of payer 0's 600 cents 300 come before the period is opened. From the settle entry on it is
+/// month A of 01, where they come as a receipt: 566 and 67, then 78 and 22, then 156 and 45.
 fn a_part() -> Vec<Step> {
     let mut steps = vec![stands(Entry::purse(0, 300), 300)];
     steps.extend(month_a(7, 300));
@@ -168,8 +168,8 @@ fn at_every_stage() -> Vec<Step> {
     steps
 }
 
-/// Each purse has its own bound, and a participant that the book does not have has no purse. What is
-/// drawn makes room again.
+/// Each purse has its own bound, and a participant that the book does not have has no purse. What
+/// is drawn makes room again.
 fn at_the_bound() -> Vec<Step> {
     let both = 2 * BOUND;
     let mut steps = vec![

@@ -5,7 +5,7 @@ use crate::draws::Draws;
 use crate::feeds::{self, KINDS};
 use crate::halves::Halves;
 use crate::handover::handover;
-use crate::judge::{judge_listing, judge_trial};
+use crate::judge::{judge_listing, judge_trial, ByKind};
 use crate::pairs;
 use crate::program;
 use crate::reach::Reach;
@@ -34,6 +34,8 @@ struct Totals {
     listed: [u64; NUMBERS],
     tried: [u64; NUMBERS],
     rounds: Vec<u64>,
+    read: ByKind,
+    written: ByKind,
     reach: Reach,
     listed_halves: Halves,
     tried_halves: Halves,
@@ -97,6 +99,8 @@ impl Totals {
                 add(&mut self.tried, &count.answers);
                 self.rounds.resize(count.rounds.len(), 0);
                 add(&mut self.rounds, &count.rounds);
+                add(&mut self.read, &count.read);
+                add(&mut self.written, &count.written);
                 self.reach.add(&count.seen.reach);
                 self.tried_halves.add(&count.seen.halves);
                 self.tried_draws.add(&count.seen.draws);
@@ -110,6 +114,7 @@ impl Totals {
             && self.months >= LEAST_MONTHS
             && self.calls >= LEAST_CALLS
             && self.tried.iter().all(|&count| count > 0)
+            && self.read[1..].iter().chain(&self.written[1..]).all(|&count| count > 0)
             && self.reach.covered()
             && self.listed_halves.covered()
             && self.tried_halves.covered()
@@ -126,6 +131,8 @@ impl Totals {
         print_answers("answers in listings", &self.listed);
         print_answers("answers in trials", &self.tried);
         print_answers("apply calls by rounds", &self.rounds);
+        print_answers("entries read by kind", &self.read);
+        print_answers("entries written by kind", &self.written);
         self.reach.print();
         self.listed_halves.print("listings");
         self.tried_halves.print("trials");
@@ -207,6 +214,7 @@ pub fn compare(listing: &str, trial: &str) -> bool {
 mod tests {
     use super::*;
     use crate::book::Book;
+    use crate::codec::LAST_KIND;
     use crate::trial;
 
     /// Just what a comparison must have covered.
@@ -217,6 +225,8 @@ mod tests {
             calls: LEAST_CALLS,
             listed: [1; NUMBERS],
             tried: [1; NUMBERS],
+            read: [1; LAST_KIND as usize + 1],
+            written: [1; LAST_KIND as usize + 1],
             ..Totals::default()
         };
         // No feed can lend too few payout words.
@@ -248,6 +258,8 @@ mod tests {
         assert!(without(|less| less.calls -= 1));
         assert!(without(|less| less.listed[15] = 0));
         assert!(without(|less| less.tried[5] = 0));
+        assert!(without(|less| less.read[1] = 0));
+        assert!(without(|less| less.written[usize::from(LAST_KIND)] = 0));
         assert!(without(|less| less.reach = Reach::default()));
         assert!(without(|less| less.listed_halves.down_to_bound[1] = 0));
         assert!(without(|less| less.tried_halves.up_past_bound[0] = 0));

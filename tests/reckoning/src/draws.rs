@@ -13,8 +13,8 @@ pub enum Sight {
     /// Up to the bound of the purse; and refused with 15 for a cent.
     ToBound,
     PastBound,
-    /// Payers with a purse that drew at a settle entry: all of a purse that covers a part of what is
-    /// unpaid, all of one that just covers it, and a part of one with more.
+    /// Payers with a purse that drew at a settle entry: all of a purse that covers a part of what
+    /// is unpaid, all of one that just covers it, and a part of one with more.
     Part,
     All,
     More,

@@ -108,8 +108,8 @@ fn the_smaller_of_purse_and_unpaid_is_drawn() {
 }
 
 /// Month A where payers 0 and 2 are related: all of G is retained, and 600 and 400 are payable. The
-/// reserve of a group and the purses change neither. 400 and 200 are drawn: 400 in arrears leave 600,
-/// 500 after tier 1: 388 of 700 and 111 of 200. Paid are 488 and 200 − 89; a cent stays.
+/// reserve of a group and the purses change neither. 400 and 200 are drawn: 400 in arrears leave
+/// 600, 500 after tier 1: 388 of 700 and 111 of 200. Paid are 488 and 200 − 89; a cent stays.
 #[test]
 fn related_payers_draw_up_to_what_is_payable_in_groups() {
     let mut making = Making::alone(3);

@@ -1,6 +1,7 @@
 //! Judges what another program printed, byte for byte, and by demand 3.
 
 use crate::book::Book;
+use crate::codec::LAST_KIND;
 use crate::demand3::{self, Count};
 use crate::listing;
 use crate::refusals::NUMBERS;
@@ -44,6 +45,9 @@ pub fn judge_listing(feed: &[u8], found: &[u8]) -> Result<Count, String> {
     }
 }
 
+/// A count for each kind of entry; there is no kind 0.
+pub type ByKind = [u64; LAST_KIND as usize + 1];
+
 /// What a trial's lines came to.
 #[derive(Clone, Debug, Default)]
 pub struct Calls {
@@ -52,6 +56,9 @@ pub struct Calls {
     pub answers: [u64; NUMBERS],
     /// How many apply calls were answered with so many rounds.
     pub rounds: Vec<u64>,
+    /// How many entries of each kind were read, and how many written.
+    pub read: ByKind,
+    pub written: ByKind,
     pub seen: Seen,
 }
 
@@ -61,10 +68,15 @@ fn count(lines: &[u8], seen: Seen) -> Calls {
     let text = std::str::from_utf8(lines).expect("text");
     for line in text.lines() {
         let words: Vec<&str> = line.split(' ').collect();
+        let number = |place: usize| words[place].parse::<usize>().expect("a number");
         calls.calls += 1;
-        calls.answers[words[1].parse::<usize>().expect("an answer")] += 1;
-        if words[0] == "apply" {
-            calls.rounds[words[2].parse::<usize>().expect("rounds")] += 1;
+        calls.answers[number(1)] += 1;
+        match (words[0], number(1)) {
+            ("apply", _) => calls.rounds[number(2)] += 1,
+            // The kind stands behind the answer and a place or a count.
+            ("read", 0) => calls.read[number(3)] += 1,
+            ("write", 0) => calls.written[number(3)] += 1,
+            _ => (),
         }
     }
     calls

@@ -1,4 +1,5 @@
-//! Pairs of refusals of reading, which checks 1 (no byte), 2, 1, 3, and of writing, which checks 3, 5.
+//! Pairs of refusals of reading, which checks 1 (no byte), 2, 1, 3, and of writing, which checks 3,
+//! 5.
 
 use crate::calls;
 use crate::codec::{Entry, LAST_KIND};

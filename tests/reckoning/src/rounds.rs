@@ -74,8 +74,8 @@ fn take(book: &mut Book, month: &mut Vec<Entry>, entries: Vec<Entry>) {
     }
 }
 
-/// The whole month, from its opening to its last late receipt. Some payers send their money to their
-/// purse, which is empty before and after.
+/// The whole month, from its opening to its last late receipt. Some payers send their money to
+/// their purse, which is empty before and after.
 pub fn month(random: &mut Random, book: &mut Book) -> Vec<Entry> {
     let period = book.highest + 1;
     let mut month = Vec::new();

@@ -1,4 +1,5 @@
-//! Shows that the comparison works: damaged outputs and wrong versions of the rules must be reported.
+//! Shows that the comparison works: damaged outputs and wrong versions of the rules must be
+//! reported.
 
 use crate::damage::{damage_listings, damage_trials};
 use crate::tries::{try_all_versions, try_demand_3};

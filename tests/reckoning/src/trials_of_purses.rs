@@ -1,5 +1,5 @@
-//! Trials of purses (02, c): the cases by hand, and periods that are open at once and settled in any
-//! order, with money for purses at every stage.
+//! Trials of purses (02, c): the cases by hand, and periods that are open at once and settled in
+//! any order, with money for purses at every stage.
 
 use crate::by_hand::Case;
 use crate::cases_of_older_arrears;

@@ -1,5 +1,5 @@
-//! Tries wrong versions of a request on trials that are made for it; each must be told from the right
-//! one. Those that upset the cents in and out must be told by demand 3 too.
+//! Tries wrong versions of a request on trials that are made for it; each must be told from the
+//! right one. Those that upset the cents in and out must be told by demand 3 too.
 
 use crate::cases_of_halves;
 use crate::demand3;

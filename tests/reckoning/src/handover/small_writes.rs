@@ -28,7 +28,8 @@ fn write_ends(length: usize) -> Vec<usize> {
     ends
 }
 
-/// Whether a feed had refused entries, settlements, some of them with draws on purses, and late money.
+/// Whether a feed had refused entries, settlements, some of them with draws on purses, and late
+/// money.
 fn various(count: &Count) -> bool {
     let refused: u64 = count.answers[usize::from(ACCEPTED) + 1..].iter().sum();
     let drawn = count.draws.drawn();
