@@ -108,7 +108,7 @@ fn past_the_arrears() -> Vec<Step> {
 }
 
 /// With 100 drawn 134 are set off and 100 in arrears. V is 722 and 177; payer 2's claim of 0 is
-/// scaled to −23, which participant 1 loses in one round: 699 of 700 are paid.
+/// scaled to −23, which participant 1 loses in one round: 699 of the 700 received are paid.
 fn a_part_before_set_off() -> Vec<Step> {
     let mut steps = month_a(7, 0);
     steps.extend([

@@ -6,11 +6,11 @@ use crate::feeds;
 use crate::refusals::PURSE_PASSES_BOUND;
 
 /// Money paid early (02, c). Before period 7, month A, is opened, payer 0 sends 300 of the 600 and
-/// payer 2 500 of the 334 that will be payable. At its settlement the 300 and 334 are drawn, so
+/// payer 2 sends 500, where 334 will be payable. At its settlement the 300 and 334 are drawn, so
 /// that it pays as month A does in 01, and 166 of payer 2 stay. Payer 0 pays its arrears of 300,
-/// and the period leaves. In period 8 payer 2 owes 150 to participant 1, which are retained and
-/// payable in full; 150 of the 166 are drawn, and 16 stay. The last entry would bring that purse
-/// past its bound.
+/// and the period leaves. In period 8 owing by 2 and owing to 1 are 150 each; retention is 150 for
+/// participant 1, and 150 are payable by payer 2. 150 of the 166 are drawn, and 16 stay. The last
+/// entry would bring that purse past its bound.
 pub fn purse() -> Case {
     let mut steps = vec![stands(Entry::purse(0, 300), 300), stands(Entry::purse(2, 500), 800)];
     steps.extend(month_a(7, 800));

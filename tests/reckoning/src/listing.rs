@@ -83,7 +83,7 @@ pub fn list(input: impl Read, out: &mut impl Write) -> io::Result<()> {
     list_by(Book::make, input, out, None)
 }
 
-/// Prints the listing of a feed where books are made so, and lets someone watch.
+/// Prints the listing of a feed where books are made so, and counts what is seen of purses, if asked.
 fn list_by(
     make: Make,
     input: impl Read,

@@ -1,5 +1,5 @@
 //! Tries wrong versions of a request on trials that are made for it; each must be told from the
-//! right one. Those that upset the cents in and out must be told by demand 3 too.
+//! right one. Those that break the equation of cents in and out must be told by demand 3 too.
 
 use crate::cases_of_halves;
 use crate::demand3;
@@ -82,7 +82,7 @@ pub fn try_all_versions() -> Report {
     report
 }
 
-/// Puts demand 3 over the listings of each version that upsets it.
+/// Puts demand 3 over the listings of each version that breaks it.
 pub fn try_demand_3() -> Report {
     let mut report = Report::default();
     let feeds = feeds_with_purses();

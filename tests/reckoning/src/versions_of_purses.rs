@@ -26,7 +26,7 @@ fn with_drawn(book: &mut Book, entry: &Entry, words: &mut [u64]) -> (Answer, Vec
     (answer, drawn)
 }
 
-/// What is drawn stays held for good, as in a purse of nobody.
+/// What is drawn stays held for good, as in a purse that no participant has.
 fn received_again(book: &mut Book, entry: &Entry, words: &mut [u64]) -> Answer {
     let (answer, drawn) = with_drawn(book, entry, words);
     book.purses.push(drawn.iter().sum());

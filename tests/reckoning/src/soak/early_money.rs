@@ -5,7 +5,7 @@ use crate::aim::Scale;
 use crate::codec::Entry;
 use crate::period::Stage;
 
-/// In the last quarter of the feed one money of so many fills a purse to about its bound.
+/// In the last quarter of the feed one purse entry of so many fills a purse to about its bound.
 const FILLING: u64 = 16;
 
 impl Rotation {
@@ -37,7 +37,7 @@ impl Rotation {
         }
     }
 
-    /// Whether a purse is filled. Its owner is in arrears no more, so it is so late in the feed.
+    /// Whether a purse is filled. Its owner then has no arrears any more, so this comes late in the feed.
     fn is_filling(&mut self) -> bool {
         4 * self.reach.entries > 3 * self.plan.entries && self.aim.random.chance(1, FILLING)
     }
