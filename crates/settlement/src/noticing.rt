@@ -28,7 +28,7 @@ pub fn notice(by: Row, to: TierCells, grouping: Grouping, n: usize) -> Noticed
     ensures { λ r. ⌜ r ≡ noticed (month n by to) grouping ⌝ }
 {
     let owing = over_tiers(to, n);
-    let parts = tier(to, LAST_TIER, n);
+    let parts = tier(&to, LAST_TIER, n);
     let groups = grouping.groups;
     let reserves = grouping.reserves;
     let by_sums = group_sums(by, groups, n);

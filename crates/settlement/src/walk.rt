@@ -60,7 +60,7 @@ pub fn meet_tiers(wanted: TierCells, money: u64, n: usize) -> Row
     let mut out = [0u64; PLACES];
     let mut left = money;
     for t in 0..TIERS {
-        let row = tier(wanted, t, n);
+        let row = tier(&wanted, t, n);
         let whole = total(row, n);
         let shared = tier_share(row, left, whole, n);
         let cents = shared.cents;

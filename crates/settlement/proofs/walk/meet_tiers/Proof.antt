@@ -12,32 +12,32 @@ use Rattle.settlement.proofs.walk.meet_tiers.Statement.{statement}
 use Rattle.settlement.proofs.walk.meet_tiers.Tie as tie
 
 abbrev Inv-loop : tie.InvT-loop
-Inv-loop wanted money n out₀ left₀ t₀ out left t = (t ≤ tiers) × (out ≡ cells (λ i. sum (λ s. tierShare n (tierAt wanted) money s i) t) n) × (left ≡ leftFor n (tierAt wanted) money t)
+Inv-loop money n wanted out₀ left₀ t₀ out left t = (t ≤ tiers) × (out ≡ cells (λ i. sum (λ s. tierShare n (tierAt wanted) money s i) t) n) × (left ≡ leftFor n (tierAt wanted) money t)
 
 abbrev μ-loop : tie.MeasureT-loop
-μ-loop wanted money n out₀ left₀ t₀ out left t = tiers - t
+μ-loop money n wanted out₀ left₀ t₀ out left t = tiers - t
 
 -- a tier's row holds what the tier wants
-row-at : (c : tie.After-tier Inv-loop μ-loop) → let x = c .before .before .before .args in
-    (i : ℕ) → i < x .n → at (c .tier .result) i ≡ tierAt (x .wanted) (c .before .before .loop .t) i
+row-at : (c : tie.After-tier Inv-loop μ-loop) → let x = c .before .before .before .before .args in
+    (i : ℕ) → i < x .n → at (c .tier .result) i ≡ tierAt (x .t1) (c .before .before .before .loop .t) i
 row-at c i h = rw (c .tier .ensures) (cells-at _ _ i h)
 
-row-total : (c : tie.After-tier Inv-loop μ-loop) → let x = c .before .before .before .args in
-    sum (at (c .tier .result)) (x .n) ≡ sum (tierAt (x .wanted) (c .before .before .loop .t)) (x .n)
+row-total : (c : tie.After-tier Inv-loop μ-loop) → let x = c .before .before .before .before .args in
+    sum (at (c .tier .result)) (x .n) ≡ sum (tierAt (x .t1) (c .before .before .before .loop .t)) (x .n)
 row-total c = sum-cong _ _ _ (row-at c)
 
-row-bound : (c : tie.After-tier Inv-loop μ-loop) → sum (at (c .tier .result)) (c .before .before .before .args .n) ≤ sideLimit
+row-bound : (c : tie.After-tier Inv-loop μ-loop) → sum (at (c .tier .result)) (c .before .before .before .before .args .n) ≤ sideLimit
 row-bound c =
-    let s = c .before .before .before in
-    omega (arith, row-total c, s .pre, tier-total-le (tierAt (s .args .wanted)) (c .before .before .loop .t) (s .args .n) (omega arith))
+    let s = c .before .before .before .before in
+    omega (arith, row-total c, s .pre, tier-total-le (tierAt (s .args .t1)) (c .before .before .before .loop .t) (s .args .n) (omega arith))
 
 -- what a participant has after a turn
-turn : (c : tie.After-tier-share Inv-loop μ-loop) → let l = c .before .before .before .before .loop in let x = c .before .before .before .before .before .args in
-    (i : ℕ) → i < x .n → at (l .out) i + at (c .tier-share .result .cents) i ≡ sum (λ s. tierShare (x .n) (tierAt (x .wanted)) (x .money) s i) (l .t + 1)
+turn : (c : tie.After-tier-share Inv-loop μ-loop) → let l = c .before .before .before .before .before .loop in let x = c .before .before .before .before .before .before .args in
+    (i : ℕ) → i < x .n → at (l .out) i + at (c .tier-share .result .cents) i ≡ sum (λ s. tierShare (x .n) (tierAt (x .t1)) (x .money) s i) (l .t + 1)
 unfolding tierShare
 turn c i h =
-    let l = c .before .before .before .before .loop in
-    let x = c .before .before .before .before .before .args in
+    let l = c .before .before .before .before .before .loop in
+    let x = c .before .before .before .before .before .before .args in
     rw (l .inv .1, c .tier-share .ensures .0, l .inv .2, sum-more) (ap₂ _+_ (cells-at _ _ i h) (cells-at _ _ i h ∙ share-cong (x .n) _ _ _ (row-at (c .before .before)) i h))
 
 loop-holds : tie.Need-loop-holds Inv-loop μ-loop
@@ -55,8 +55,8 @@ tier-share-requires c κs = (search needs, c .total .ensures, omega (arith, c .t
 sums-requires : tie.Need-sums-requires Inv-loop μ-loop
 sums-requires c κs =
     let b = c .before in
-    let s = b .before .before .before .before .before in
-    (search needs, λ i h. omega (arith, turn b i h, s .pre, met-part (s .args .n) (tierAt (s .args .wanted)) (s .args .money) (b .before .before .before .before .loop .t + 1) i (omega arith), sum-term (overTiers (tierAt (s .args .wanted))) (s .args .n) i h))
+    let s = b .before .before .before .before .before .before in
+    (search needs, λ i h. omega (arith, turn b i h, s .pre, met-part (s .args .n) (tierAt (s .args .t1)) (s .args .money) (b .before .before .before .before .before .loop .t + 1) i (omega arith), sum-term (overTiers (tierAt (s .args .t1))) (s .args .n) i h))
 
 excess-requires : tie.Need-excess-requires Inv-loop μ-loop
 excess-requires c κs = search needs
@@ -70,7 +70,7 @@ loop-less c = search needs
 loop-again : tie.Need-loop-again Inv-loop μ-loop
 loop-again c =
     let b = c .before .before .before in
-    let l = b .before .before .before .before .loop in (
+    let l = b .before .before .before .before .before .loop in (
       search needs,
       c .before .sums .ensures ∙ cells-cong _ _ _ (turn b),
       c .excess .ensures ∙ rw (b .before .total .ensures, row-total (b .before .before), l .inv .2) (sym (left-more _ _ _ (l .t))),
