@@ -12,6 +12,7 @@ pub use Rattle.settlement.proofs.ClaimLaws.{set-off-le, unpaid-exact, a
 -- steps 2 to 5
 pub use Rattle.settlement.proofs.SettleLaws.{available-exact, tierRest, tier-rest-le, revised-le, revised-total, revised-all, scaled-le-claim, scaled-le-revised}
 pub use Rattle.settlement.proofs.SettleLaws.{paid-le, paid-near, paid-full, rounds-le, rounds-none, held-cases, held-exact, held-le}
+pub use Rattle.settlement.proofs.SettleLaws.{negatives-set-to-zero}
 pub use Rattle.settlement.proofs.EnoughRounds.{rounds-suffice, settlement-ends}
 -- late money
 pub use Rattle.settlement.proofs.LateLaws.{fill-sum, fill-mono, shortage-cong, shortage-sum, paid-through, pay, late-near, late-le, late-full, late-open, tiers-in-order}

@@ -5,6 +5,7 @@ mod GroupLaws
 mod NoticeLaws
 mod ClaimLaws
 mod TierLaws
+mod LossLaws
 mod RoundLaws
 mod Running
 mod SettleLaws

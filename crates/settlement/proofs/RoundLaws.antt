@@ -2,34 +2,20 @@
 use mathlib.Core.Path.{_≡_, refl, ap, ap₂, sym, _∙_}
 use mathlib.Core.Logic.{_⊎_, ⊎-elim}
 use mathlib.Core.Bool.{Bool, true, false, cond}
+use mathlib.Core.List.{List}
 use Prim.Native.Nat.{ℕ, zero, suc, _+_, _-_, _*_, _≤_, _<_, min}
 use native.Mathlib.Nat.{eq-zero-or-pos, mul-zero}
 use native.Mathlib.Omega.{arith}
 use lib.Dec.{eqb}
 use borrow.Author.Tests.{ne-eqb}
-use Rattle.exact.specs.Rows.{sum}
+use Rattle.exact.specs.Rows.{sum, cells}
 use Rattle.exact.specs.Division.{ceilDiv}
 use Rattle.exact.proofs.Cases.{cases-eq, le-or-lt}
 use Rattle.exact.proofs.Ceiling.{ceil-zero}
-use Rattle.exact.proofs.RowLaws.{sum-cong, sum-mono, sum-add, sum-const, sum-term, sum-zero, sum-same-or-less}
+use Rattle.exact.proofs.RowLaws.{cells-cong, sum-cong, sum-mono, sum-add, sum-const, sum-term, sum-zero, sum-same-or-less}
 use Rattle.exact.proofs.Shares.{weighted, ceil-sum}
 use Rattle.settlement.specs.Rounds.{Standing, weight, loss, round, run, start, spread}
-
-pub weight-le : (v balance : ℕ → ℕ) (i : ℕ) → weight v balance i ≤ v i
-unfolding weight
-weight-le v balance i = cases-eq (λ z. z ≤ v i) (balance i) 0 (λ _. omega arith) (λ _. omega arith)
-
--- nobody loses more than its balance
-pub loss-le : (n : ℕ) (v balance : ℕ → ℕ) (deficit i : ℕ) → loss n v balance deficit i ≤ balance i
-unfolding loss
-loss-le n v balance deficit i = omega arith
-
--- losses go by the revised amounts and the balances below n
-pub loss-cong : (n : ℕ) (v u f g : ℕ → ℕ) (deficit : ℕ) → ((i : ℕ) → i < n → v i ≡ u i) → ((i : ℕ) → i < n → f i ≡ g i)
-    → (i : ℕ) → i < n → loss n v f deficit i ≡ loss n u g deficit i
-unfolding loss weight
-loss-cong n v u f g deficit a b i l =
-    rw (sum-cong (weight v f) (weight u g) n (λ j k. ap₂ (λ (x y : ℕ). cond (eqb x 0) 0 y) (b j k) (a j k)), a i l, b i l)
+use Rattle.settlement.proofs.LossLaws.{balances-le, loss-cong}
 
 module _ (n : ℕ) (v : ℕ → ℕ) where
   -- 1 for each balance that is positive, and how many are
@@ -45,13 +31,9 @@ module _ (n : ℕ) (v : ℕ → ℕ) where
 
   -- one round, with some balance positive
   module _ (s : Standing) (backed : Backed s) (some : 0 < sum (s .balance) n) where
-    weight-ge : (i : ℕ) → i < n → s .balance i ≤ weight v (s .balance) i
-    unfolding weight
-    weight-ge i h = cases-eq (λ z. s .balance i ≤ z) (s .balance i) 0 (λ e. omega arith) (λ _. backed i h)
-
     -- W is not 0
-    pub weights-some : 0 < sum (weight v (s .balance)) n
-    weights-some = omega (arith, sum-mono (s .balance) (weight v (s .balance)) n weight-ge)
+    weights-some : 0 < sum (weight v (s .balance)) n
+    weights-some = omega (arith, balances-le n v (s .balance) backed)
 
     abbrev shareOf : ℕ → ℕ
     shareOf i = ceilDiv (s .deficit * weight v (s .balance) i) (sum (weight v (s .balance)) n)
@@ -225,6 +207,14 @@ pub record Alike (n : ℕ) (s t : Standing) : Type 0 where
   pub balances : (i : ℕ) → i < n → s .balance i ≡ t .balance i
   pub deficits : s .deficit ≡ t .deficit
   pub counts : s .rounds ≡ t .rounds
+
+-- a count and an array that hold a standing's
+abbrev pub HoldsStanding : ℕ → Standing → ℕ → List ℕ → Type 0
+HoldsStanding n s count left = (count ≡ s .rounds) × (left ≡ cells (s .balance) n)
+
+-- they hold each standing that agrees with it below n
+pub holds-alike : {n : ℕ} {s t : Standing} {count : ℕ} {left : List ℕ} → Alike n s t → HoldsStanding n s count left → HoldsStanding n t count left
+holds-alike {n = n} a e = (e .0 ∙ a .counts, e .1 ∙ cells-cong _ _ n (a .balances))
 
 -- the rounds go by the revised amounts and the balances below n
 module _ (n : ℕ) (v u : ℕ → ℕ) (same : (i : ℕ) → i < n → v i ≡ u i) where

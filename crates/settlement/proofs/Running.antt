@@ -2,12 +2,23 @@
 use Prim.Native.Nat.{ℕ, suc, _+_, _-_, _≤_, _<_}
 use mathlib.Core.Path.{_≡_, refl, sym, ap, ap₂, _∙_}
 use mathlib.Core.List.{List}
+use native.Mathlib.Nat.{pos-of-ne-zero}
 use native.Mathlib.Omega.{arith}
 use Rattle.exact.specs.Rows.{at, sum, cells}
 use Rattle.exact.proofs.RowLaws.{cells-cong, sum-cong, sum-mono, sum-holds, holds}
 use Rattle.settlement.specs.Month.{sideLimit}
-use Rattle.settlement.specs.Rounds.{Standing, Backing, loss, round, run, spread}
-use Rattle.settlement.proofs.RoundLaws.{positives, positives-le, some-positive, round-spends, round-deficit, round-counts, round-backed, run-done, run-spent, run-more, loss-cong}
+use Rattle.settlement.specs.Rounds.{Standing, Backing, weight, loss, round, run, spread}
+use Rattle.settlement.proofs.RoundLaws.{positives, positives-le, some-positive, round-spends, round-deficit, round-counts, round-backed, run-done, run-spent, run-more, HoldsStanding}
+use Rattle.settlement.proofs.LossLaws.{weights-none, balances-le, loss-cong}
+
+-- an array that holds backed balances is backed
+pub backing-held : {n : ℕ} {v balance : ℕ → ℕ} {deficit : ℕ} {left : List ℕ} → left ≡ cells balance n → Backing n v balance deficit → Backing n v (at left) deficit
+backing-held {n = n} e b = record {
+  few = b .few;
+  backed = λ i h. rw (holds _ n e .reads i h) (b .backed i h);
+  revised-total = b .revised-total;
+  deficit-bound = b .deficit-bound;
+}
 
 module _ (n : ℕ) (v : ℕ → ℕ) (balance : ℕ → ℕ) (deficit : ℕ) where
   pub record Running (left : List ℕ) (short count : ℕ) : Type 0 where
@@ -41,35 +52,28 @@ module _ (n : ℕ) (v : ℕ → ℕ) (balance : ℕ → ℕ) (deficit : ℕ) whe
 
     -- the array itself is backed too
     pub running-backing : Backing n v (at left) short
-    running-backing = record {
-      few = r .backing .few;
-      backed = λ i h. rw (holds _ n (r .row) .reads i h) (r .backing .backed i h);
-      revised-total = r .backing .revised-total;
-      deficit-bound = rw (r .short-is) (r .backing .deficit-bound);
-    }
+    running-backing = rw (r .short-is) (backing-held (r .row) (r .backing))
 
     pub running-bound : sum (at left) n ≤ sideLimit
     running-bound = omega (arith, r .backing .revised-total, sum-mono (at left) v n (running-backing .backed))
 
     -- where the loop ends, the code has what all rounds make
-    abbrev Ends : Type 0
-    Ends = (count ≡ spread n v balance deficit .rounds) × (left ≡ cells (spread n v balance deficit .balance) n)
-
-    ends : spread n v balance deficit ≡ r .standing → Ends
+    ends : spread n v balance deficit ≡ r .standing → HoldsStanding n (spread n v balance deficit) count left
     ends e = rw e (r .count-is, r .row)
 
-    pub running-done : short ≡ 0 → Ends
+    pub running-done : short ≡ 0 → HoldsStanding n (spread n v balance deficit) count left
     running-done e = ends (r .same ∙ run-done n v (r .still) (r .standing) (sym (r .short-is) ∙ e))
 
-    pub running-spent : sum (at left) n ≡ 0 → Ends
-    running-spent e = ends (r .same ∙ run-spent n v (r .still) (r .standing) (sym running-sum ∙ e))
+    pub running-spent : sum (weight v (at left)) n ≡ 0 → HoldsStanding n (spread n v balance deficit) count left
+    running-spent e =
+        ends (r .same ∙ run-spent n v (r .still) (r .standing) (omega (arith, running-sum, balances-le n v (at left) (running-backing .backed))))
 
-    module _ (d : 0 < short) (b : 0 < sum (at left) n) where
-      pub running-less : count < n
-      running-less = omega (arith, r .counted, r .enough d, some-positive n v (r .standing) (omega (arith, running-sum)))
-
+    module _ (d : 0 < short) (w : 0 < sum (weight v (at left)) n) where
       some : 0 < sum (r .standing .balance) n
-      some = omega (arith, running-sum)
+      some = pos-of-ne-zero (λ none. omega (arith, weights-none n v (at left) (running-sum ∙ none)))
+
+      pub running-less : count < n
+      running-less = omega (arith, r .counted, r .enough d, some-positive n v (r .standing) some)
 
       lost-is : (i : ℕ) → i < n → loss n v (at left) short i ≡ loss n v (r .standing .balance) (r .standing .deficit) i
       lost-is i h = rw (r .short-is) (loss-cong n v v _ _ _ (λ _ _. refl) (holds _ n (r .row) .reads) i h)

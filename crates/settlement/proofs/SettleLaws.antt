@@ -1,20 +1,26 @@
 -- Laws of steps 2 to 5: what is paid is at most the claim, and all but a few cents of what was received is paid.
-use mathlib.Core.Path.{_≡_, ap, _∙_}
+use mathlib.Core.Path.{_≡_, refl, ap, _∙_}
 use mathlib.Core.Logic.{_⊎_, inl, inr, ⊎-elim}
 use Prim.Native.Nat.{ℕ, _+_, _-_, _*_, _≤_, _<_}
-use native.Mathlib.Nat.{eq-zero-or-pos}
+use native.Mathlib.Nat.{eq-zero-or-pos, pos-of-ne-zero}
 use native.Mathlib.Omega.{arith}
 use Rattle.exact.specs.Rows.{sum}
+use Rattle.exact.proofs.Cases.{cases-eq}
 use Rattle.exact.proofs.RowLaws.{sum-cong, sum-mono, sum-add, sum-zero}
 use Rattle.exact.proofs.Shares.{Near}
 use Rattle.settlement.specs.Month.{Month, owingTo}
 use Rattle.settlement.specs.Notice.{Retained, payable}
 use Rattle.settlement.specs.Claims.{arrears, claim}
-use Rattle.settlement.specs.Rounds.{Standing, start, spread}
-use Rattle.settlement.specs.Settling.{available, revised, scaledAbove, scaledBelow, deficit, spent, rounds, paid, held}
+use Rattle.settlement.specs.Rounds.{Standing, start, negativesAtZero, spread}
+use Rattle.settlement.specs.Settling.{available, revised, scaledAbove, scaledBelow, deficit, spent, rounds, paid, held, NegativesSetToZero}
 use Rattle.settlement.proofs.ClaimLaws.{claim-le, claim-total, arrears-total-le}
 use Rattle.settlement.proofs.TierLaws.{met-le, met-all, met-near}
 use Rattle.settlement.proofs.RoundLaws.{Backed, spread-le, spread-none, spread-ended, spread-rounds}
+
+pub negatives-set-to-zero : NegativesSetToZero
+unfolding negativesAtZero scaledAbove scaledBelow
+negatives-set-to-zero m retained received i =
+    cases-eq (λ z. z ≡ scaledAbove m retained received i) (scaledBelow m retained received i) 0 (λ _. refl) (λ some. omega (arith, pos-of-ne-zero some))
 
 module _ (m : Month) (retained received : ℕ → ℕ) (sound : Retained m retained) where
   -- V_i ≤ O_i

@@ -1,4 +1,5 @@
--- The rounds that take a deficit from positive balances (01, Settlement, step 4; 14.59(4)(b) and (5)).
+-- The balances of negative scaled amounts are 0, and rounds take the deficit, these amounts summed with the sign turned, from the
+-- positive balances (01, Settlement, step 4; 14.59(4) and (5)).
 use Prim.Native.Nat.{ℕ, zero, suc, _+_, _-_, _*_, _≤_, _<_, min}
 use mathlib.Core.Path.{_≡_}
 use mathlib.Core.Logic.{_⊎_}
@@ -7,6 +8,10 @@ use lib.Dec.{eqb}
 use Rattle.exact.specs.Rows.{places, sum}
 use Rattle.exact.specs.Division.{ceilDiv}
 use Rattle.settlement.specs.Month.{sideLimit}
+
+-- 14.59(4)(a): the scaled amounts with the negative ones set to 0. An amount is negative where `below i` is not 0, else `above i`
+unfoldable pub negativesAtZero : (ℕ → ℕ) → (ℕ → ℕ) → ℕ → ℕ
+negativesAtZero above below i = cond (eqb (below i) 0) (above i) 0
 
 -- where the rounds stand: the balances, the deficit D, and how many rounds have run
 pub record Standing : Type 0 where

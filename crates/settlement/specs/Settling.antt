@@ -1,11 +1,12 @@
 -- Available money, revised, scaled and paid amounts (01, Settlement, steps 2 to 5; 14.57 to 14.59).
 use Prim.Native.Nat.{ℕ, _+_, _-_}
+use mathlib.Core.Path.{_≡_}
 use Rattle.exact.specs.Rows.{sum, cells}
 use Rattle.settlement.specs.Month.{Month, owingTo}
 use Rattle.settlement.specs.Notice.{Retained}
 use Rattle.settlement.specs.Claims.{arrears, claim}
 use Rattle.settlement.specs.Tiers.{met}
-use Rattle.settlement.specs.Rounds.{Standing, spread, Suffice}
+use Rattle.settlement.specs.Rounds.{Standing, negativesAtZero, spread, Suffice}
 use Rattle.settlement.specs.declared.scaling.Scaled.{Scaled}
 use Rattle.settlement.specs.declared.settling.Settled.{Settled}
 
@@ -66,6 +67,12 @@ abbrev pub SettlementEnds : Type 0
 SettlementEnds =
     (m : Month) (retained received : ℕ → ℕ) → Retained m retained
     → Suffice (m .n) (revised m retained received) (scaledAbove m retained received) (deficit m retained received)
+
+-- 14.59(4)(a) leaves the scaled amounts that are positive, and 0 for those that are negative: where the rounds of `spent` start
+abbrev pub NegativesSetToZero : Type 0
+NegativesSetToZero =
+    (m : Month) (retained received : ℕ → ℕ) (i : ℕ)
+    → negativesAtZero (scaledAbove m retained received) (scaledBelow m retained received) i ≡ scaledAbove m retained received i
 
 -- held money: received − paid
 unfoldable pub held : ℕ → (ℕ → ℕ) → (ℕ → ℕ) → ℕ

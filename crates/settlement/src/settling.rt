@@ -3,7 +3,6 @@ use crate::owing::TierCells;
 use crate::scaling::scale;
 use crate::spread::spread;
 use exact::Row;
-use exact::total;
 ghost use mathlib.Core.Path.{_≡_};
 ghost use Rattle.exact.specs.Rows.{at};
 ghost use Rattle.settlement.specs.Month.{month, Bounded};
@@ -27,8 +26,7 @@ pub fn settle(by: Row, to: TierCells, payables: Row, received: Row, n: usize) ->
     let above = s.above;
     let below = s.below;
     let revised = s.revised;
-    let deficit = total(below, n);
-    let left = spread(above, deficit, revised, n);
+    let left = spread(above, below, revised, n);
     let claims = s.claims;
     let arrears = s.arrears;
     let paid = left.balances;
