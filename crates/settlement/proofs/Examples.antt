@@ -1,4 +1,4 @@
--- The ten starred examples, and those of retention over groups, come out by computation.
+-- The ten starred examples, those of retention over groups and of the clause's paragraphs come out by computation.
 use mathlib.Core.Path.{refl}
 use Rattle.exact.specs.Rows.{sum, largest, table}
 use Rattle.exact.specs.Division.{ceilDiv}
@@ -8,11 +8,12 @@ use Rattle.settlement.specs.Notice.{gives, shortfall, othersTier5, reten
 use Rattle.settlement.specs.Groups.{groupSum, outsideSum, shortfallWithReserve, groupShortfall, outsideTier5, groupRetention}
 use Rattle.settlement.specs.Claims.{unpaid, setOff, arrears, claim}
 use Rattle.settlement.specs.Tiers.{share, leftFor, tierShare, met}
-use Rattle.settlement.specs.Rounds.{weight, loss, round, run, spread}
+use Rattle.settlement.specs.Rounds.{negativesAtZero, weight, loss, round, run, spread}
 use Rattle.settlement.specs.Settling.{available, revised, scaledAbove, scaledBelow, deficit, spent, rounds, paid, held}
 use Rattle.settlement.specs.Late.{fill, shortage, latePayment}
 use Rattle.settlement.specs.Examples.{Examples}
 use Rattle.settlement.specs.GroupExamples.{GroupExamples}
+use Rattle.settlement.specs.ClauseExamples.{ClauseExamples}
 
 pub examples : Examples
 unfolding sum largest table ceilDiv energyCents overTiers gives shortfall othersTier5 retention payable fullClaim unpaid setOff arrears claim share leftFor tierShare met weight loss round run spread available revised scaledAbove scaledBelow deficit spent rounds paid held fill shortage latePayment
@@ -42,4 +43,24 @@ group-examples = record {
   all-in-one = refl;
   both = (refl, refl);
   whole = refl;
+}
+
+pub clause-examples : ClauseExamples
+unfolding sum largest table ceilDiv overTiers gives shortfall othersTier5 retention payable fullClaim unpaid setOff arrears claim share leftFor tierShare met negativesAtZero weight loss round run spread available revised scaledAbove scaledBelow
+clause-examples = record {
+  scaled-b = (refl, refl);
+  revised-b = refl;
+  zero-b = refl;
+  sums-b = (refl, refl);
+  lost-b = refl;
+  again-b = refl;
+  end-b = (refl, refl);
+  zero-two = refl;
+  sums-two = (refl, refl);
+  lost-two = refl;
+  again-two = (refl, refl);
+  end-two = (refl, refl);
+  lost-rounding = refl;
+  again-rounding = refl;
+  end-rounding = (refl, refl);
 }

@@ -8,3 +8,4 @@ pub mod Settling
 pub mod Late
 pub mod Examples
 pub mod GroupExamples
+pub mod ClauseExamples
