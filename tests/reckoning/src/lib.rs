@@ -1,4 +1,4 @@
-//! A reckoning of 01, with requests a to c of 02, on u128, written from the rules alone. It
+//! A reckoning of 01, with requests a to d of 02, on u128, written from the rules alone. It
 //! shares no code and no definitions with the clearing book that is tested by it.
 
 mod accounts;
@@ -57,6 +57,8 @@ pub mod watch_of_purses;
 pub mod ways;
 mod wrong;
 
+#[cfg(test)]
+mod clause;
 #[cfg(test)]
 mod examples;
 #[cfg(test)]
