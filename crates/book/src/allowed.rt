@@ -3,7 +3,7 @@ use crate::entries::Entry;
 use exact::PLACES;
 use settlement::TIERS;
 ghost use mathlib.Core.Path.{_≡_};
-ghost use Rattle.book.specs.layouts.Allowed.{allowed, none, tierOutside, centsOutside, energyOutside, amountOutside, receiptOutside};
+ghost use Rattle.book.specs.layouts.Allowed.{allowed, none, tierOutside, centsOutside, energyOutside, amountOutside, receiptOutside, washupOutside};
 
 const PARTICIPANTS: u8 = PLACES as u8;
 
@@ -76,6 +76,15 @@ fn receipt_allowed(participant: u8, cents: u64) -> bool
     cents_allowed(cents)
 }
 
+fn washup_allowed(participant: u8, side: u8, old: u32, new: u32, price: u32) -> bool
+    ensures { λ r. ⌜ r ≡ none (washupOutside participant side old new price) ⌝ }
+{
+    if QUANTITY_LIMIT < old {
+        return false;
+    }
+    energy_allowed(participant, side, new, price)
+}
+
 // Whether each field of an entry has one of its values.
 pub fn is_allowed(e: Entry) -> bool
     ensures { λ r. ⌜ r ≡ allowed e ⌝ }
@@ -101,6 +110,15 @@ pub fn is_allowed(e: Entry) -> bool
             cents,
         } => receipt_allowed(participant, cents),
         Entry::Purse { participant, cents } => receipt_allowed(participant, cents),
+        Entry::Washup {
+            period: _,
+            earlier: _,
+            participant,
+            side,
+            old,
+            new,
+            price,
+        } => washup_allowed(participant, side, old, new, price),
         _ => true,
     }
 }

@@ -18,6 +18,7 @@ pub enum Answer {
     TooMuch,
     EarlierArrears,
     PursePastBound,
+    Misdated,
 }
 
 pub fn is_accepted(a: Answer) -> bool
@@ -45,5 +46,6 @@ pub fn number(a: Answer) -> u64
         Answer::TooMuch => 13,
         Answer::EarlierArrears => 14,
         Answer::PursePastBound => 15,
+        Answer::Misdated => 16,
     }
 }

@@ -35,6 +35,15 @@ pub enum Entry {
         participant: u8,
         cents: u64,
     },
+    Washup {
+        period: u32,
+        earlier: u32,
+        participant: u8,
+        side: u8,
+        old: u32,
+        new: u32,
+        price: u32,
+    },
 }
 
 // The numbers of the kinds.
@@ -52,11 +61,13 @@ pub const SETTLE: usize = 6;
 
 pub const PURSE: usize = 7;
 
+pub const WASHUP: usize = 8;
+
 // One more than the highest kind; there is no kind 0.
-pub const KINDS: usize = 8;
+pub const KINDS: usize = 9;
 
 // The length of a body, by kind.
-pub const BODY_LENGTHS: [usize; KINDS] = [0, 4, 14, 15, 4, 13, 4, 9];
+pub const BODY_LENGTHS: [usize; KINDS] = [0, 4, 14, 15, 4, 13, 4, 9, 22];
 
 // The number of an entry's kind.
 pub fn kind_of(e: Entry) -> usize
@@ -89,6 +100,15 @@ pub fn kind_of(e: Entry) -> usize
             participant: _,
             cents: _,
         } => PURSE,
+        Entry::Washup {
+            period: _,
+            earlier: _,
+            participant: _,
+            side: _,
+            old: _,
+            new: _,
+            price: _,
+        } => WASHUP,
     }
 }
 

@@ -80,6 +80,27 @@ fn purse_at(s: &[u8], body: usize) -> Entry
     }
 }
 
+fn washup_at(s: &[u8], body: usize) -> Entry
+    requires { ⌜ body + 22 ≤ length (now s) ⌝ }
+    ensures { λ r. ⌜ r ≡ entryOf 8 (fieldsAt (layout 8) (now (s .entry)) body) ⌝ }
+{
+    let earlier = body + 4;
+    let participant = earlier + 4;
+    let side = participant + 1;
+    let old = side + 1;
+    let new = old + 4;
+    let price = new + 4;
+    Entry::Washup {
+        period: word_at(s, body),
+        earlier: word_at(s, earlier),
+        participant: byte_at(s, participant),
+        side: byte_at(s, side),
+        old: word_at(s, old),
+        new: word_at(s, new),
+        price: word_at(s, price),
+    }
+}
+
 // The entry of a known kind, of whose body no byte is missing.
 fn body_at(s: &[u8], kind: usize, body: usize) -> Entry
     requires { ⌜ (unknown kind ≡ false) × (body + bodyLength kind ≤ length (now s)) ⌝ }
@@ -98,7 +119,8 @@ fn body_at(s: &[u8], kind: usize, body: usize) -> Entry
         6 => Entry::Settle {
             period: word_at(s, body),
         },
-        _ => purse_at(s, body),
+        7 => purse_at(s, body),
+        _ => washup_at(s, body),
     }
 }
 

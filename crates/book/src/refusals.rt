@@ -18,22 +18,33 @@ use crate::answers::Answer;
 use crate::entries::Entry;
 use crate::kinds::addition_of;
 use crate::kinds::is_amount;
+use crate::kinds::is_misdated;
 use crate::periods::is_noticed;
 use crate::periods::is_opened;
 use crate::periods::is_settled;
 use exact::excess;
 use settlement::SIDE_LIMIT;
 
-// 12, 9, 11: cents added to a side of that total, in a period at that stage.
-pub fn amount_answer(stage: Stage, total: u64, n: usize, i: usize, cents: u64) -> Answer
+// 12, 9, 16, 11: cents added to a side of that total, in a period at that stage.
+pub fn amount_answer(
+    stage: Stage,
+    total: u64,
+    n: usize,
+    i: usize,
+    misdated: bool,
+    cents: u64,
+) -> Answer
     requires { ⌜ (total ≤ sideLimit) × (cents ≤ sideLimit) ⌝ }
-    ensures { λ r. ⌜ numberOf r ≡ refusal (sideChecks n stage total i cents) ⌝ }
+    ensures { λ r. ⌜ numberOf r ≡ refusal (sideChecks n stage total i misdated cents) ⌝ }
 {
     if n <= i {
         return Answer::NotAParticipant;
     }
     if !is_opened(stage) {
         return Answer::WrongStage;
+    }
+    if misdated {
+        return Answer::Misdated;
     }
     if SIDE_LIMIT < total + cents {
         return Answer::PastBound;
@@ -123,7 +134,14 @@ pub fn period_answer(p: Period, n: usize, e: Entry, barred: bool) -> Answer
         let a = addition_of(e);
         let side = a.side;
         let stage = p.stage;
-        return amount_answer(stage, p.totals[side], n, a.participant, a.cents);
+        return amount_answer(
+            stage,
+            p.totals[side],
+            n,
+            a.participant,
+            is_misdated(e),
+            a.cents,
+        );
     }
     match e {
         Entry::Notice { period: _ } => notice_answer(p, n),

@@ -12,7 +12,7 @@ ghost use mathlib.Core.List.{[], _∷_};
 ghost use Rattle.book.specs.layouts.Fields.{bytes, fieldBytes};
 ghost use Rattle.book.specs.layouts.Entries.{bytesOf, size};
 ghost use Rattle.book.specs.layouts.Writing.{writing, written, writeOutcome};
-ghost use Rattle.book.specs.declared.entries.Entry.the-variants.{Energy, Amount, Receipt, Purse};
+ghost use Rattle.book.specs.declared.entries.Entry.the-variants.{Energy, Amount, Receipt, Purse, Washup};
 
 // How many bytes were written, or why none was.
 pub enum Writing {
@@ -104,6 +104,28 @@ fn put_purse(out: &mut [u8], participant: u8, cents: u64)
     put(out, 2, 8, cents);
 }
 
+fn put_washup(
+    out: &mut [u8],
+    period: u32,
+    earlier: u32,
+    participant: u8,
+    side: u8,
+    old: u32,
+    new: u32,
+    price: u32,
+)
+    requires { ⌜ 23 ≤ length (now out) ⌝ }
+    ensures { λ _. ⌜ now (out .exit) ≡ sets (now (out .entry)) 0 (bytesOf (Washup period earlier participant side old new price)) ⌝ }
+{
+    put_head(out, 8, period);
+    put(out, 5, 4, earlier as u64);
+    put(out, 9, 1, participant as u64);
+    put(out, 10, 1, side as u64);
+    put(out, 11, 4, old as u64);
+    put(out, 15, 4, new as u64);
+    put(out, 19, 4, price as u64);
+}
+
 // The bytes of an entry, for which there is room.
 fn put_entry(e: Entry, out: &mut [u8])
     requires { ⌜ size e ≤ length (now out) ⌝ }
@@ -133,6 +155,15 @@ fn put_entry(e: Entry, out: &mut [u8])
         } => put_receipt(out, period, participant, cents),
         Entry::Settle { period } => put_head(out, 6, period),
         Entry::Purse { participant, cents } => put_purse(out, participant, cents),
+        Entry::Washup {
+            period,
+            earlier,
+            participant,
+            side,
+            old,
+            new,
+            price,
+        } => put_washup(out, period, earlier, participant, side, old, new, price),
     }
 }
 

@@ -53,7 +53,7 @@ pub record Examples : Type 0 where
   pub whole-entry : listing (3 ∷ opening) ≡ header ++ openingLine
   -- a part of an entry, 2 1 0 0; an unknown kind, 2 2 0 0; a field outside its values, 2 3 0 0, and nothing after it
   pub short : listing (3 ∷ opening ++ 4 ∷ 7 ∷ 0 ∷ 0 ∷ []) ≡ header ++ openingLine ++ 50 ∷ 32 ∷ 49 ∷ 32 ∷ 48 ∷ 32 ∷ 48 ∷ 10 ∷ []
-  pub unknown : listing (3 ∷ opening ++ 8 ∷ opening) ≡ header ++ openingLine ++ 50 ∷ 32 ∷ 50 ∷ 32 ∷ 48 ∷ 32 ∷ 48 ∷ 10 ∷ []
+  pub unknown : listing (3 ∷ opening ++ 9 ∷ opening) ≡ header ++ openingLine ++ 50 ∷ 32 ∷ 50 ∷ 32 ∷ 48 ∷ 32 ∷ 48 ∷ 10 ∷ []
   pub outside : listing (3 ∷ opening ++ tierSix ++ opening) ≡ header ++ openingLine ++ 50 ∷ 32 ∷ 51 ∷ 32 ∷ 48 ∷ 32 ∷ 48 ∷ 10 ∷ []
   -- the cents held stand in the line of bytes that cannot be read too: 9 2 0 300
   pub held : listing (3 ∷ firstEight ++ 0 ∷ []) ≡ header ++ firstEightLines ++ 57 ∷ 32 ∷ 50 ∷ 32 ∷ 48 ∷ 32 ∷ 51 ∷ 48 ∷ 48 ∷ 10 ∷ []

@@ -7,8 +7,8 @@ use Rattle.trial.specs.declared.calls.Call.the-variants.{Make, MakeGroup
 abbrev pub callLength : Call → ℕ
 callLength Make = 9
 callLength MakeGrouped = 585
-callLength Apply = 26
+callLength Apply = 34
 callLength (Read count) = 11 + count
-callLength Write = 26
+callLength Write = 34
 callLength More = 0
 callLength Stop = 0

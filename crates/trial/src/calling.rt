@@ -69,7 +69,7 @@ fn make(m: Making, out: &mut [u8; BLOCK]) -> Called
 
 // Applies an entry.
 fn apply(b: Book, s: &[u8], out: &mut [u8; BLOCK]) -> Called
-    requires { ⌜ Valid b × (26 ≤ length (now s)) ⌝ }
+    requires { ⌜ Valid b × (34 ≤ length (now s)) ⌝ }
     ensures { λ r. ⌜ Valid (r .book) × (r .wrote ≤ 65536) ⌝ }
 {
     let f = fields_at(s, 0);
@@ -102,6 +102,8 @@ fn put_found(out: &mut [u8; BLOCK], entry: Entry, next: usize) -> usize
     numbers[5] = fields[2];
     numbers[6] = fields[3];
     numbers[7] = fields[4];
+    numbers[8] = fields[5];
+    numbers[9] = fields[6];
     put_line(out, b"read ", &numbers, 3 + e.count)
 }
 
@@ -153,7 +155,7 @@ fn put_written(
 
 // Writes an entry.
 fn write(s: &[u8], out: &mut [u8; BLOCK]) -> usize
-    requires { ⌜ 26 ≤ length (now s) ⌝ }
+    requires { ⌜ 34 ≤ length (now s) ⌝ }
     ensures { λ r. ⌜ r ≤ 65536 ⌝ }
 {
     let f = fields_at(s, 0);

@@ -23,12 +23,12 @@ const MAKE_LENGTH: usize = 9;
 
 const MAKE_GROUPED_LENGTH: usize = 585;
 
-const ENTRY_LENGTH: usize = 26;
+const ENTRY_LENGTH: usize = 34;
 
 pub const READ_LENGTH: usize = 11;
 
 // The highest kind of an entry; there is no kind 0.
-const LAST_KIND: u8 = 7;
+const LAST_KIND: u8 = 8;
 
 // What stands at the start of the bytes: a whole call, of READ with how many bytes are to be read; the start of one; or
 // no call.
@@ -52,6 +52,8 @@ pub struct Fields {
     pub quantity: u32,
     pub price: u32,
     pub cents: u64,
+    pub earlier: u32,
+    pub old: u32,
     pub room: u8,
 }
 
@@ -118,7 +120,7 @@ pub fn making_at(s: &[u8]) -> Making
 
 // The fields of the call APPLY or WRITE at a place.
 pub fn fields_at(s: &[u8], place: usize) -> Fields
-    requires { ⌜ place + 26 ≤ length (now s) ⌝ }
+    requires { ⌜ place + 34 ≤ length (now s) ⌝ }
 {
     Fields {
         kind: s[place + 1],
@@ -129,7 +131,9 @@ pub fn fields_at(s: &[u8], place: usize) -> Fields
         quantity: word_at(s, place + 9),
         price: word_at(s, place + 13),
         cents: number_at(s, place + 17, 8),
-        room: s[place + 25],
+        earlier: word_at(s, place + 25),
+        old: word_at(s, place + 29),
+        room: s[place + 33],
     }
 }
 
@@ -159,9 +163,18 @@ pub fn entry_of(f: Fields) -> Entry {
             cents: f.cents,
         },
         6 => Entry::Settle { period: f.period },
-        _ => Entry::Purse {
+        7 => Entry::Purse {
             participant: f.participant,
             cents: f.cents,
+        },
+        _ => Entry::Washup {
+            period: f.period,
+            earlier: f.earlier,
+            participant: f.participant,
+            side: f.side,
+            old: f.old,
+            new: f.quantity,
+            price: f.price,
         },
     }
 }

@@ -31,7 +31,7 @@ pub fn put_line(out: &mut [u8], name: &[u8], numbers: &[u64; NUMBERS], count: us
 }
 
 // The most fields of an entry.
-pub const MOST_FIELDS: usize = 5;
+pub const MOST_FIELDS: usize = 7;
 
 // An entry as numbers: the kind, and its fields in the layout's order.
 pub struct Layout {
@@ -41,7 +41,7 @@ pub struct Layout {
 }
 
 pub fn layout_of(e: Entry) -> Layout
-    ensures { λ r. ⌜ r .count ≤ 5 ⌝ }
+    ensures { λ r. ⌜ r .count ≤ 7 ⌝ }
 {
     match e {
         Entry::Open { period } => period_alone(1, period),
@@ -67,31 +67,52 @@ pub fn layout_of(e: Entry) -> Layout
         } => Layout {
             kind: 5,
             count: 3,
-            fields: [period as u64, participant as u64, cents, 0, 0],
+            fields: [period as u64, participant as u64, cents, 0, 0, 0, 0],
         },
         Entry::Settle { period } => period_alone(6, period),
         Entry::Purse { participant, cents } => Layout {
             kind: 7,
             count: 2,
-            fields: [participant as u64, cents, 0, 0, 0],
+            fields: [participant as u64, cents, 0, 0, 0, 0, 0],
+        },
+        Entry::Washup {
+            period,
+            earlier,
+            participant,
+            side,
+            old,
+            new,
+            price,
+        } => Layout {
+            kind: 8,
+            count: 7,
+            fields: [
+                period as u64,
+                earlier as u64,
+                participant as u64,
+                side as u64,
+                old as u64,
+                new as u64,
+                price as u64,
+            ],
         },
     }
 }
 
 // The layout of a kind whose only field is its period.
 fn period_alone(kind: u64, period: u32) -> Layout
-    ensures { λ r. ⌜ r .count ≤ 5 ⌝ }
+    ensures { λ r. ⌜ r .count ≤ 7 ⌝ }
 {
     Layout {
         kind: kind,
         count: 1,
-        fields: [period as u64, 0, 0, 0, 0],
+        fields: [period as u64, 0, 0, 0, 0, 0, 0],
     }
 }
 
 // The layout of a kind with five fields.
 fn five(kind: u64, period: u32, participant: u8, side: u8, fourth: u64, fifth: u64) -> Layout
-    ensures { λ r. ⌜ r .count ≤ 5 ⌝ }
+    ensures { λ r. ⌜ r .count ≤ 7 ⌝ }
 {
     Layout {
         kind: kind,
@@ -102,6 +123,8 @@ fn five(kind: u64, period: u32, participant: u8, side: u8, fourth: u64, fifth: u
             side as u64,
             fourth,
             fifth,
+            0,
+            0,
         ],
     }
 }

@@ -12,14 +12,14 @@ use Rattle.settlement.specs.declared.groups.Grouping.{Grouping}
 use Rattle.book.specs.Checks.{refusal}
 use Rattle.book.specs.layouts.Entries.{kindOf, entryOf, field}
 use Rattle.book.specs.layouts.Allowed.{allowed}
-use Rattle.book.specs.rules.Kinds.{isOpen, isPurse, isAmount, isReceipt, addition}
+use Rattle.book.specs.rules.Kinds.{isOpen, isPurse, isAmount, isReceipt, addition, misdated}
 use Rattle.book.specs.rules.Periods.{zeros, Change, withAddition, changed}
 use Rattle.book.specs.rules.Refusals.{amountChecks, periodChecks}
 use Rattle.book.specs.rules.Valid.{Sound, InBook}
 use Rattle.book.specs.history.Log.{Account, retention}
 use Rattle.book.specs.history.Demand3.{TiersInOrder}
 use Rattle.book.specs.declared.entries.Entry.{Entry}
-use Rattle.book.specs.declared.entries.Entry.the-variants.{Open, Energy, Amount, Notice, Receipt, Settle, Purse}
+use Rattle.book.specs.declared.entries.Entry.the-variants.{Open, Energy, Amount, Notice, Receipt, Settle, Purse, Washup}
 use Rattle.book.specs.declared.Period.{Period}
 use Rattle.book.proofs.layouts.EntryLaws.{of-kind}
 use Rattle.book.proofs.rules.Passing.{amount-passes, notice-passes, receipt-passes, settle-passes}
@@ -32,12 +32,12 @@ module _ (n : ℕ) {grouping : Grouping} (p : Period) (b : InBook n grouping p) 
   abbrev s : Sound n p
   s = b .sound
 
-  adds : (e : Entry) → isAmount e ≡ true → allowed e ≡ true → refusal (amountChecks n p (addition e)) ≡ 0
+  adds : (e : Entry) → isAmount e ≡ true → allowed e ≡ true → refusal (amountChecks n p (misdated e) (addition e)) ≡ 0
       → Paid n (zeros places) words → Tracks n grouping (withAddition p (addition e)) (with-entry e words a)
   adds e q l z w =
       let d = addition e in
       let o = amount-other e q in
-      track-amount n p s a t words w e (d .participant) (d .cents) (d .side) (d .tier) (amount-within e q l .placed) (amount-passes n p d z)
+      track-amount n p s a t words w e (d .participant) (d .cents) (d .side) (d .tier) (amount-within e q l .placed) (amount-passes n p (misdated e) d z)
       (record { by = λ j. rw q; to = λ u j. rw q; no-receipt = λ j. rw (o .not-receipt); no-settle = o .not-settle })
 
   pub entry-tracks : (e : Entry) (barred : Bool) → isOpen e ≡ false → isPurse e ≡ false → allowed e ≡ true → refusal (periodChecks n barred e p) ≡ 0
@@ -57,6 +57,7 @@ module _ (n : ℕ) {grouping : Grouping} (p : Period) (b : InBook n grouping p) 
       (f .stage)
   entry-tracks (Settle k) barred o u l e w = track-settle n p s a t words b k (settle-passes p e) w
   entry-tracks (Purse i cents) barred o u l e w = absurd (true≢false u)
+  entry-tracks (Washup k earlier i side old new price) barred o u l e w = adds (Washup k earlier i side old new price) refl l e w
 
   receipt-in-order : (k i cents : ℕ) (barred : Bool) → 0 < a .settlements → refusal (periodChecks n barred (Receipt k i cents) p) ≡ 0
       → Paid n (changed n grouping (Receipt k i cents) p .pays) words → TiersInOrder n (retention n grouping) a (with-entry (Receipt k i cents) words a)

@@ -58,7 +58,7 @@ answerList =
     ∷ answer.Outside ∷ answer.NoParticipants ∷ answer.FewWords ∷ answer.NotAbove
     ∷ answer.Full ∷ answer.NotInBook ∷ answer.WrongStage ∷ answer.Unequal
     ∷ answer.PastBound ∷ answer.NotAParticipant ∷ answer.TooMuch ∷ answer.EarlierArrears
-    ∷ answer.PursePastBound ∷ []
+    ∷ answer.PursePastBound ∷ answer.Misdated ∷ []
 
 number-again : (a : Answer) → getD answerList (numberOf a) answer.Accepted ≡ a
 number-again answer.Accepted = refl
@@ -75,6 +75,7 @@ number-again answer.NotAParticipant = refl
 number-again answer.TooMuch = refl
 number-again answer.EarlierArrears = refl
 number-again answer.PursePastBound = refl
+number-again answer.Misdated = refl
 
 pub number-one-to-one : (a b : Answer) → numberOf a ≡ numberOf b → a ≡ b
 number-one-to-one a b e = sym (number-again a) ∙ ap (λ (k : ℕ). getD answerList k answer.Accepted) e ∙ number-again b

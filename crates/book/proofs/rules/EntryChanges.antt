@@ -11,14 +11,14 @@ use Rattle.settlement.specs.Settling.{held}
 use Rattle.settlement.specs.declared.groups.Grouping.{Grouping}
 use Rattle.book.specs.Checks.{refusal}
 use Rattle.book.specs.layouts.Allowed.{allowed}
-use Rattle.book.specs.rules.Kinds.{isOpen, isPurse, isAmount, addition, receiptCents}
+use Rattle.book.specs.rules.Kinds.{isOpen, isPurse, isAmount, addition, misdated, receiptCents}
 use Rattle.book.specs.rules.Periods.{monthOf, isOpened, isSettled, holds, leaves, Change, changed, paysNothing, amounted, withAddition, withNotice, withReceipt, withSettlement, withLateReceipt}
 use Rattle.book.specs.rules.Refusals.{amountChecks, periodChecks}
 use Rattle.book.specs.rules.Valid.{Sound, InBook, AtStage, AfterSettlement}
 use Rattle.book.specs.declared.Stage.{Stage}
 use Rattle.book.specs.declared.Stage.the-variants.{Opened, Noticed, Settled}
 use Rattle.book.specs.declared.entries.Entry.{Entry}
-use Rattle.book.specs.declared.entries.Entry.the-variants.{Open, Energy, Amount, Notice, Receipt, Settle, Purse}
+use Rattle.book.specs.declared.entries.Entry.the-variants.{Open, Energy, Amount, Notice, Receipt, Settle, Purse, Washup}
 use Rattle.book.specs.declared.Period.{Period}
 use Rattle.book.proofs.rules.Passing.{amount-passes, notice-passes, receipt-passes, settle-passes, settled-stage}
 use Rattle.book.proofs.rules.AdditionLaws.{amount-within}
@@ -44,11 +44,11 @@ module _ (n : ℕ) {grouping : Grouping} (p : Period) (b : InBook n grouping p) 
   abbrev s : Sound n p
   s = b .sound
 
-  adds : (e : Entry) → isAmount e ≡ true → allowed e ≡ true → refusal (amountChecks n p (addition e)) ≡ 0
+  adds : (e : Entry) → isAmount e ≡ true → allowed e ≡ true → refusal (amountChecks n p (misdated e) (addition e)) ≡ 0
       → Changes n 0 p (paysNothing (withAddition p (addition e)))
   adds e q a z =
       let d = addition e in
-      amount-changes n p s (d .participant) (d .tier) (d .cents) (d .side) (amount-within e q a .placed) (amount-passes n p d z)
+      amount-changes n p s (d .participant) (d .tier) (d .cents) (d .side) (amount-within e q a .placed) (amount-passes n p (misdated e) d z)
 
   pub entry-changes : (e : Entry) (barred : Bool) → isOpen e ≡ false → isPurse e ≡ false → allowed e ≡ true → refusal (periodChecks n barred e p) ≡ 0
       → Changes n (receiptCents e) p (changed n grouping e p)
@@ -65,10 +65,11 @@ module _ (n : ℕ) {grouping : Grouping} (p : Period) (b : InBook n grouping p) 
       (f .stage)
   entry-changes (Settle k) barred o u a e = let q = settle-passes p e in settle-changes n p s q (due-in-book n p b q)
   entry-changes (Purse i cents) barred o u a e = absurd (true≢false u)
+  entry-changes (Washup k earlier i side old new price) barred o u a e = adds (Washup k earlier i side old new price) refl a e
 
-  -- energy and amounts come before notice
-  adds-opened : (e : Entry) → refusal (amountChecks n p (addition e)) ≡ 0 → p .stage ≡ Noticed → ⊥
-  adds-opened e z q = not-noticed q (inl (amount-passes n p (addition e) z .stage))
+  -- what adds to a side comes before notice
+  adds-opened : (e : Entry) → refusal (amountChecks n p (misdated e) (addition e)) ≡ 0 → p .stage ≡ Noticed → ⊥
+  adds-opened e z q = not-noticed q (inl (amount-passes n p (misdated e) (addition e) z .stage))
 
   -- from notice to settlement what is payable is what a notice reckons
   pub entry-row : (e : Entry) (barred : Bool) → isOpen e ≡ false → isPurse e ≡ false → refusal (periodChecks n barred e p) ≡ 0
@@ -84,6 +85,7 @@ module _ (n : ℕ) {grouping : Grouping} (p : Period) (b : InBook n grouping p) 
       (receipt-passes n p barred i cents e .stage)
   entry-row (Settle k) barred o u e q = absurd (not-noticed q (inr refl))
   entry-row (Purse i cents) barred o u e q = absurd (true≢false u)
+  entry-row (Washup k earlier i side old new price) barred o u e q = absurd (adds-opened (Washup k earlier i side old new price) e q)
 
 -- cents in are cents out and cents held
 module _ (n : ℕ) (p : Period) (s : Sound n p) (cents : ℕ) (c : Change) (d : Changes n cents p c) where

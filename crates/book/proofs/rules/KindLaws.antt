@@ -13,7 +13,7 @@ use denote.Enum.Declared.{tagOf}
 use Rattle.book.specs.layouts.Entries.{bodyLengths, kindOf}
 use Rattle.book.specs.rules.Kinds.{isPurse, isReceipt, isSettle, periodOf, names, EveryKind}
 use Rattle.book.specs.declared.entries.Entry.{Entry}
-use Rattle.book.specs.declared.entries.Entry.the-variants.{Open, Energy, Amount, Notice, Receipt, Settle, Purse}
+use Rattle.book.specs.declared.entries.Entry.the-variants.{Open, Energy, Amount, Notice, Receipt, Settle, Purse, Washup}
 use Rattle.book.proofs.entries.Entry.{the-type}
 use Rattle.book.proofs.layouts.EntryLaws.{each-kind, kind-known}
 
@@ -26,6 +26,7 @@ tag-kind (Notice _) = refl
 tag-kind (Receipt _ _ _) = refl
 tag-kind (Settle _) = refl
 tag-kind (Purse _ _) = refl
+tag-kind (Washup _ _ _ _ _ _ _) = refl
 
 -- the tags of all kinds but these
 abbrev below : ℕ → List ℕ
@@ -48,8 +49,8 @@ not-kind ks k e none one = ne-eqb (kindOf e) (suc k) (λ q.
 
 pub every-kind : EveryKind
 every-kind e = each-kind
-    (λ k. cond (eqb k 1) true (cond (cond (eqb k 2) true (eqb k 3)) true (cond (eqb k 4) true (cond (eqb k 5) true (cond (eqb k 6) true (eqb k 7))))) ≡ true)
-    refl refl refl refl refl refl refl (kindOf e) (kind-known e)
+    (λ k. cond (eqb k 1) true (cond (cond (eqb k 2) true (cond (eqb k 3) true (eqb k 8))) true (cond (eqb k 4) true (cond (eqb k 5) true (cond (eqb k 6) true (eqb k 7))))) ≡ true)
+    refl refl refl refl refl refl refl refl (kindOf e) (kind-known e)
 
 -- an entry names the period of its number, unless it is a purse entry
 module _ (k : ℕ) (e : Entry) where

@@ -1,13 +1,14 @@
 -- What an entry that passed the checks of its kind is known to be.
 use Prim.Native.Nat.{ℕ, zero, suc, _+_, _-_, _≤_, _<_}
 use mathlib.Core.Path.{_≡_, refl, subst}
-use mathlib.Core.Bool.{Bool, true, false, not, true≢false, false≢true}
+use mathlib.Core.Bool.{Bool, true, false, cond, not, true≢false, false≢true}
 use mathlib.Core.Logic.{_⊎_, inl, inr}
 use native.Mathlib.Nat.{pos-of-ne-zero}
 use native.Mathlib.Omega.{arith}
 use borrow.Author.Tests.{ltb-false, leb-false, eqb-true, eqb-false, not-false}
 use lib.Dec.{eqb, eqb·suc-zero}
 use Rattle.exact.specs.Rows.{places, at}
+use Rattle.exact.proofs.Cases.{cases}
 use Rattle.exact.specs.Energy.{quantityLimit, priceLimit}
 use Rattle.settlement.specs.Month.{sideLimit, tiers}
 use Rattle.book.specs.Checks.{refusal}
@@ -19,7 +20,7 @@ use Rattle.book.specs.rules.Refusals.{receivable, amountChecks, noticeCh
 use Rattle.book.specs.declared.Stage.{Stage}
 use Rattle.book.specs.declared.Stage.the-variants.{Opened, Noticed, Settled}
 use Rattle.book.specs.declared.entries.Entry.{Entry}
-use Rattle.book.specs.declared.entries.Entry.the-variants.{Energy, Amount, Receipt}
+use Rattle.book.specs.declared.entries.Entry.the-variants.{Energy, Amount, Receipt, Washup}
 use Rattle.book.specs.declared.kinds.Addition.{Addition}
 use Rattle.book.specs.declared.Period.{Period}
 use Rattle.book.proofs.rules.CheckLaws.{all-pass, none-false}
@@ -57,6 +58,10 @@ tier-inside : (tier : ℕ) → tierOutside 1 tier ≡ false → (0 < tier) × (t
 tier-inside zero e = absurd (true≢false e)
 tier-inside (suc t) e = (omega arith, ltb-false tiers (suc t) (rw (eqb·suc-zero t) at e))
 
+-- the cents of a washup have a place on either side
+pub washed-placed : (side : ℕ) (negative : Bool) → side ≤ 1 → Placed (cond negative (1 - side) side) tiers
+washed-placed side negative l = placed _ tiers (cases (λ s. s ≤ 1) negative (λ _. omega arith) (λ _. l)) (λ _. (omega arith, omega arith))
+
 -- what is known of the fields of an allowed entry
 pub energy-inside : (k i side quantity price : ℕ) → allowed (Energy k i side quantity price) ≡ true
     → (i < places) × Placed side tiers × (quantity ≤ quantityLimit) × (price ≤ priceLimit)
@@ -66,6 +71,17 @@ energy-inside k i side quantity price e =
       placed side tiers (ltb-false 1 side (f .1 .0)) (λ _. (omega arith, omega arith)),
       ltb-false quantityLimit quantity (f .1 .1 .0),
       ltb-false priceLimit price (f .1 .1 .1 .0),
+    )
+
+pub washup-inside : (k earlier i side old new price : ℕ) → allowed (Washup k earlier i side old new price) ≡ true
+    → (i < places) × (side ≤ 1) × (old ≤ quantityLimit) × (new ≤ quantityLimit) × (price ≤ priceLimit)
+washup-inside k earlier i side old new price e =
+    let f = none-false (outside (Washup k earlier i side old new price)) e in (
+      leb-false places i (f .1 .0),
+      ltb-false 1 side (f .1 .1 .0),
+      ltb-false quantityLimit old (f .0),
+      ltb-false quantityLimit new (f .1 .1 .1 .0),
+      ltb-false priceLimit price (f .1 .1 .1 .1 .0),
     )
 
 pub amount-inside : (k i side tier cents : ℕ) → allowed (Amount k i side tier cents) ≡ true → (i < places) × Placed side tier × (cents ≤ centsLimit)
@@ -95,13 +111,13 @@ module _ (n : ℕ) (p : Period) where
     pub stage : p .stage ≡ Opened
     pub fits : sideTotal n p side + cents ≤ sideLimit
 
-  pub amount-passes : (a : Addition) → refusal (amountChecks n p a) ≡ 0 → PassesAmount (a .participant) (a .side) (a .cents)
-  amount-passes a e =
-      let f = all-pass (amountChecks n p a) refl e in
+  pub amount-passes : (misdated : Bool) (a : Addition) → refusal (amountChecks n p misdated a) ≡ 0 → PassesAmount (a .participant) (a .side) (a .cents)
+  amount-passes misdated a e =
+      let f = all-pass (amountChecks n p misdated a) refl e in
       record {
         member = leb-false n (a .participant) (f .0);
         stage = opened-stage (p .stage) (f .1 .0);
-        fits = ltb-false sideLimit (sideTotal n p (a .side) + a .cents) (f .1 .1 .0);
+        fits = ltb-false sideLimit (sideTotal n p (a .side) + a .cents) (f .1 .1 .1 .0);
       }
 
   pub record PassesNotice : Type 0 where

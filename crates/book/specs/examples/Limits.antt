@@ -105,9 +105,9 @@ pub record ByteLimits : Type 0 where
   pub no-byte : reading [] 0 ≡ record { answer = 1; place = 0; entry = [] }
   pub last-place : reading (9 ∷ 1 ∷ periodBytes) 1 ≡ record { answer = 0; place = 6; entry = Open 4_294_967_295 ∷ [] }
   pub at-end : reading (1 ∷ periodBytes) 5 ≡ record { answer = 1; place = 5; entry = [] }
-  -- kinds 1 and 7 are known by their first byte alone, and kinds 0 and 8 are not
+  -- kinds 1 and 8 are known by their first byte alone, and kinds 0 and 9 are not
   pub first-kind : (reading (1 ∷ []) 0 .answer ≡ 1) × (reading (0 ∷ []) 0 ≡ record { answer = 2; place = 0; entry = [] })
-  pub last-kind : (reading (7 ∷ []) 0 .answer ≡ 1) × (reading (8 ∷ []) 0 ≡ record { answer = 2; place = 0; entry = [] })
+  pub last-kind : (reading (8 ∷ []) 0 .answer ≡ 1) × (reading (9 ∷ []) 0 ≡ record { answer = 2; place = 0; entry = [] })
   -- a field outside its values is 3, after a missing body in reading and before missing room in writing
   pub read-outside : reading (4 ∷ periodBytes ++ 5 ∷ periodBytes ++ 64 ∷ centsBytes) 5 ≡ record { answer = 3; place = 5; entry = [] }
   pub read-outside-short : reading (5 ∷ periodBytes ++ 64 ∷ take 7 centsBytes) 0 ≡ record { answer = 1; place = 0; entry = [] }

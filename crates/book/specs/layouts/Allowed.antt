@@ -1,4 +1,4 @@
--- The values that fields may have (01, Entries; 02, c), for reader, writer and book.
+-- The values that fields may have (01, Entries; 02, c and e), for reader, writer and book.
 use Prim.Native.Nat.{ℕ}
 use mathlib.Core.Bool.{Bool, true, false, cond, not}
 use mathlib.Core.List.{List, [], _∷_}
@@ -32,12 +32,17 @@ amountOutside participant side tier cents = leb places participant ∷ ltb 1 sid
 abbrev pub receiptOutside : (participant cents : ℕ) → List Bool
 receiptOutside participant cents = leb places participant ∷ centsOutside cents
 
+-- a washup has the ranges of energy, for both of its quantities (02, e)
+abbrev pub washupOutside : (participant side old new price : ℕ) → List Bool
+washupOutside participant side old new price = ltb quantityLimit old ∷ energyOutside participant side new price
+
 abbrev pub outside : Entry → List Bool
 outside e =
     cond (eqb (kindOf e) 2) (energyOutside (field e 1) (field e 2) (field e 3) (field e 4))
     (cond (eqb (kindOf e) 3) (amountOutside (field e 1) (field e 2) (field e 3) (field e 4))
     (cond (eqb (kindOf e) 5) (receiptOutside (field e 1) (field e 2))
-    (cond (eqb (kindOf e) 7) (receiptOutside (field e 0) (field e 1)) [])))
+    (cond (eqb (kindOf e) 7) (receiptOutside (field e 0) (field e 1))
+    (cond (eqb (kindOf e) 8) (washupOutside (field e 2) (field e 3) (field e 4) (field e 5) (field e 6)) []))))
 
 abbrev pub none : List Bool → Bool
 none [] = true

@@ -3,7 +3,7 @@ use Prim.Native.Nat.{ℕ}
 use mathlib.Core.List.{List}
 use Rattle.book.specs.rules.Step.{Reply}
 use Rattle.book.specs.declared.answers.Answer.{Answer}
-use Rattle.book.specs.declared.answers.Answer.the-variants.{Accepted, Outside, NoParticipants, FewWords, NotAbove, Full, NotInBook, WrongStage, Unequal, PastBound, NotAParticipant, TooMuch, EarlierArrears, PursePastBound}
+use Rattle.book.specs.declared.answers.Answer.the-variants.{Accepted, Outside, NoParticipants, FewWords, NotAbove, Full, NotInBook, WrongStage, Unequal, PastBound, NotAParticipant, TooMuch, EarlierArrears, PursePastBound, Misdated}
 use Rattle.book.specs.declared.steps.Applied.{Applied}
 
 abbrev pub numberOf : Answer → ℕ
@@ -21,6 +21,7 @@ numberOf NotAParticipant = 12
 numberOf TooMuch = 13
 numberOf EarlierArrears = 14
 numberOf PursePastBound = 15
+numberOf Misdated = 16
 
 -- the answer to an entry, with the payout words as it leaves them
 abbrev pub replied : Applied → List ℕ → Reply

@@ -1,4 +1,4 @@
--- The book's refusals, 3 to 15, in 01's order (01, Refused, by whoever causes it; 02, c).
+-- The book's refusals, 3 to 16, in 01's order (01, Refused, by whoever causes it; 02, c and e).
 use Prim.Native.Nat.{ℕ, _+_, _-_}
 use mathlib.Core.Bool.{Bool, false, cond, not}
 use mathlib.Core.List.{List, [], _∷_}
@@ -8,7 +8,7 @@ use Rattle.exact.specs.Rows.{at}
 use Rattle.settlement.specs.Month.{sideLimit}
 use Rattle.book.specs.Checks.{Check, on}
 use Rattle.book.specs.layouts.Allowed.{allowed}
-use Rattle.book.specs.rules.Kinds.{periodOf, isOpen, isPurse, isAmount, isNotice, isReceipt, isSettle, addition, payerOf, receiptCents, purseOf, purseCents}
+use Rattle.book.specs.rules.Kinds.{periodOf, isOpen, isPurse, isAmount, isNotice, isReceipt, isSettle, addition, misdated, payerOf, receiptCents, purseOf, purseCents}
 use Rattle.book.specs.rules.Periods.{isOpened, isNoticed, isSettled, sideTotal}
 use Rattle.book.specs.rules.State.{State, mostPeriods, find, periodAt, earlierArrears}
 use Rattle.book.specs.rules.Purses.{purseLimit}
@@ -26,17 +26,18 @@ pub record Input : Type 0 where
 unfoldable pub receivable : Period → ℕ → ℕ
 receivable p i = cond (isSettled (p .stage)) (at (p .arrears) i) (at (p .payable) i - at (p .received) i)
 
--- n participants; cents added to a side of a total: 12, 9 unless before notice, 11
-abbrev pub sideChecks : ℕ → Stage → ℕ → ℕ → ℕ → List Check
-sideChecks n stage total i cents =
+-- n participants; cents added to a side of a total: 12, 9 unless before notice, 16 of a washup, 11
+abbrev pub sideChecks : ℕ → Stage → (total i : ℕ) (misdated : Bool) (cents : ℕ) → List Check
+sideChecks n stage total i misdated cents =
     on (leb n i) 12
     ∷ on (not (isOpened stage)) 9
+    ∷ on misdated 16
     ∷ on (ltb sideLimit (total + cents)) 11
     ∷ []
 
--- kinds 2 and 3, by what they add to the period that the entry names
-abbrev pub amountChecks : ℕ → Period → Addition → List Check
-amountChecks n p a = sideChecks n (p .stage) (sideTotal n p (a .side)) (a .participant) (a .cents)
+-- kinds 2, 3 and 8, by what they add to the period that the entry names: 11 is about the side to which it is added
+abbrev pub amountChecks : ℕ → Period → Bool → Addition → List Check
+amountChecks n p misdated a = sideChecks n (p .stage) (sideTotal n p (a .side)) (a .participant) misdated (a .cents)
 
 -- kind 4: 9 unless before notice, 10
 abbrev pub noticeChecks : ℕ → Period → List Check
@@ -61,7 +62,7 @@ barring e ps = cond (isReceipt e) (earlierArrears (payerOf e) (periodOf e) ps) f
 
 abbrev pub periodChecks : ℕ → Bool → Entry → Period → List Check
 periodChecks n barred e p =
-    cond (isAmount e) (amountChecks n p (addition e))
+    cond (isAmount e) (amountChecks n p (misdated e) (addition e))
     (cond (isNotice e) (noticeChecks n p)
     (cond (isReceipt e) (receiptChecks n barred p (payerOf e) (receiptCents e))
     (cond (isSettle e) (settleChecks p) [])))

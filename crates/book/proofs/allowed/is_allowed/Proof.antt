@@ -31,6 +31,12 @@ enum-known-e-4 c = search needs
 receipt-allowed-requires-2 : tie.Need-receipt-allowed-requires-2
 receipt-allowed-requires-2 c κs = search needs
 
+enum-known-e-5 : tie.Need-enum-known-e-5
+enum-known-e-5 c = search needs
+
+washup-allowed-requires : tie.Need-washup-allowed-requires
+washup-allowed-requires c κs = search needs
+
 returns : tie.Need-returns
 returns c = c .energy-allowed .ensures ∙ sym (ap allowed (c .before .before .e .given .1))
 
@@ -44,11 +50,20 @@ returns-4 : tie.Need-returns-4
 returns-4 c = c .receipt-allowed2 .ensures ∙ sym (ap allowed (c .before .before .e4 .given .1))
 
 returns-5 : tie.Need-returns-5
-returns-5 c =
+returns-5 c = c .washup-allowed .ensures ∙ sym (ap allowed (c .before .before .e5 .given .1))
+
+returns-6 : tie.Need-returns-6
+returns-6 c =
     let e = c .before .args .e in
-    let own : List ℕ = 1 ∷ 2 ∷ 4 ∷ 6 ∷ [] in
-    let left = c .match .keys5 in
-    rw (not-kind own 1 e (tt {0}) left, not-kind own 2 e (tt {0}) left, not-kind own 4 e (tt {0}) left, not-kind own 6 e (tt {0}) left)
+    let own : List ℕ = 1 ∷ 2 ∷ 4 ∷ 6 ∷ 7 ∷ [] in
+    let left = c .match .keys6 in
+    rw (
+      not-kind own 1 e (tt {0}) left,
+      not-kind own 2 e (tt {0}) left,
+      not-kind own 4 e (tt {0}) left,
+      not-kind own 6 e (tt {0}) left,
+      not-kind own 7 e (tt {0}) left,
+    )
 
 pub is-allowed-spec : {M : Type 1} → statement M
 is-allowed-spec =
@@ -62,8 +77,11 @@ is-allowed-spec =
     receipt-allowed-requires
     enum-known-e-4
     receipt-allowed-requires-2
+    enum-known-e-5
+    washup-allowed-requires
     returns
     returns-2
     returns-3
     returns-4
-    returns-5)
+    returns-5
+    returns-6)

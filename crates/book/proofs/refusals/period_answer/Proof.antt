@@ -1,5 +1,5 @@
 use Prim.Native.Nat.{_<_}
-use mathlib.Core.Path.{sym, ap, _∙_}
+use mathlib.Core.Path.{sym, ap, ap₂, _∙_}
 use mathlib.Core.List.{[], _∷_}
 use native.Mathlib.Omega.{arith}
 use Rattle.book.specs.Checks.{refusal}
@@ -33,16 +33,22 @@ mul-amount-answer c = omega (arith, side-below c)
 element-copy-out-amount-answer : tie.Need-element-copy-out-amount-answer
 element-copy-out-amount-answer c = side-below c
 
+is-misdated-requires : tie.Need-is-misdated-requires
+is-misdated-requires c κs = search needs
+
 amount-answer-requires : tie.Need-amount-answer-requires
-amount-answer-requires c κs = (total-within _ _ (c .before .before .before .before .pre .0) _ (side-below (c .before)), within (c .before) .cents-le)
+amount-answer-requires c κs =
+    let a = c .before .before in
+    (total-within _ _ (a .before .before .before .pre .0) _ (side-below a), within a .cents-le)
 
 returns : tie.Need-returns
 returns c =
-    let a = c .before .before in
+    let a = c .before .before .before in
     let s = a .before .before .before in
-    c .amount-answer .ensures ∙ kept-answer _ _ (s .pre .0) _ (within a)
-    ∙ ap (λ (d : Addition). refusal (amountChecks (s .args .n) (s .args .t1) d)) (a .addition-of .ensures)
-    ∙ sym (ap refusal (amount-checks (s .args .e) (sym (a .before .before .is-amount .ensures) ∙ a .before .if1 .taken) (s .args .n) (s .args .barred) (s .args .t1)))
+    let e = s .args .e in
+    c .amount-answer .ensures ∙ kept-answer _ _ (s .pre .0) (c .before .is-misdated .result) _ (within a)
+    ∙ ap₂ (λ t (d : Addition). refusal (amountChecks (s .args .n) (s .args .t1) t d)) (c .before .is-misdated .ensures) (a .addition-of .ensures)
+    ∙ sym (ap refusal (amount-checks e (sym (a .before .before .is-amount .ensures) ∙ a .before .if1 .taken) (s .args .n) (s .args .barred) (s .args .t1)))
 
 enum-told : tie.Need-enum-told
 enum-told c = search needs
@@ -92,6 +98,7 @@ period-answer-spec =
     addition-of-requires
     mul-amount-answer
     element-copy-out-amount-answer
+    is-misdated-requires
     amount-answer-requires
     returns
     enum-told

@@ -46,6 +46,12 @@ enum-known-e-7 c = search needs
 put-purse-requires : tie.Need-put-purse-requires
 put-purse-requires c κs = rw (c .before .before .e7 .given .1) at (c .before .before .before .before .before .pre)
 
+enum-known-e-8 : tie.Need-enum-known-e-8
+enum-known-e-8 c = search needs
+
+put-washup-requires : tie.Need-put-washup-requires
+put-washup-requires c κs = rw (c .before .before .e8 .given .1) at (c .before .before .before .before .before .pre)
+
 same-length : tie.Need-same-length
 same-length c = search needs
 
@@ -91,6 +97,12 @@ same-length-7 c = search needs
 returns-7 : tie.Need-returns-7
 returns-7 c = rw (c .before .before .before .before .before .e7 .given .1) (c .before .before .put-purse .ensures)
 
+same-length-8 : tie.Need-same-length-8
+same-length-8 c = search needs
+
+returns-8 : tie.Need-returns-8
+returns-8 c = rw (c .before .before .before .before .before .e8 .given .1) (c .before .before .put-washup .ensures)
+
 pub put-entry-spec : {M : Type 1} → statement M
 put-entry-spec =
     tie.close
@@ -109,6 +121,8 @@ put-entry-spec =
     put-head-requires-3
     enum-known-e-7
     put-purse-requires
+    enum-known-e-8
+    put-washup-requires
     same-length
     returns
     same-length-2
@@ -122,4 +136,6 @@ put-entry-spec =
     same-length-6
     returns-6
     same-length-7
-    returns-7)
+    returns-7
+    same-length-8
+    returns-8)
