@@ -6,6 +6,8 @@ pub use Rattle.book.proofs.layouts.Outcomes.{read-one-to-one, write-one
 -- no kind passes by the checks; every book that is handed back is valid; refusals; rounds
 pub use Rattle.book.proofs.rules.KindLaws.{every-kind}
 pub use Rattle.book.proofs.rules.ValidLaws.{stays-valid, refusal-changes-nothing, rounds-of-settlements}
+-- washups
+pub use Rattle.book.proofs.rules.WashupLaws.{there-and-back, nothing-added}
 -- what a book is made with
 pub use Rattle.book.proofs.rules.MakingLaws.{refused-book, same-books, separate-books}
 -- demand 3, of entries one after the other and of block runs among them
@@ -22,3 +24,4 @@ pub use Rattle.book.proofs.runs.RunReplies.{reply-n}
 pub use Rattle.book.proofs.examples.Months.{examples}
 pub use Rattle.book.proofs.examples.Limits.{limits}
 pub use Rattle.book.proofs.examples.Purses.{purse-examples}
+pub use Rattle.book.proofs.examples.Washups.{washup-examples}

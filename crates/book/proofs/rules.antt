@@ -13,4 +13,5 @@ pub mod PurseLaws
 pub mod DrawingLaws
 pub mod EntryChanges
 pub mod ValidLaws
+pub mod WashupLaws
 pub mod CentsLaws

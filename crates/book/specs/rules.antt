@@ -6,5 +6,6 @@ pub mod Makings
 pub mod Step
 pub mod Words
 pub mod Valid
+pub mod Washups
 pub mod Answers
 pub mod Refusals

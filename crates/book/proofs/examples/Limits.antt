@@ -14,7 +14,7 @@ use Rattle.book.specs.rules.Refusals.{receivable}
 use Rattle.book.specs.rules.Step.{stored, payoutWords, acted, accepted, step}
 use Rattle.exact.specs.Rows.{sum, largest, table, filled, cells}
 use Rattle.exact.specs.Division.{ceilDiv}
-use Rattle.exact.specs.Energy.{energyCents}
+use Rattle.exact.specs.Energy.{energyCents, energyDifference}
 use Rattle.settlement.specs.Month.{overTiers}
 use Rattle.settlement.specs.Notice.{gives, payable, fullClaim}
 use Rattle.settlement.specs.Groups.{groupingAllowed, groupSum, outsideSum, shortfallWithReserve, groupShortfall, outsideTier5, groupRetention}
@@ -25,7 +25,7 @@ use Rattle.settlement.specs.Settling.{available, revised, scaledAbove, scaledBe
 use Rattle.settlement.specs.Late.{fill, shortage, latePayment}
 
 field-limits : FieldLimits
-unfolding stateAfter zeros fresh raised sideTotal leaves amounted withNotice withReceipt changed periodsAfter pursesAfter made find arrearsBefore earlierArrears replaced added receivable stored payoutWords acted accepted step sum largest table filled cells ceilDiv energyCents overTiers gives groupingAllowed groupSum outsideSum shortfallWithReserve groupShortfall outsideTier5 groupRetention payable fullClaim
+unfolding stateAfter zeros fresh raised sideTotal leaves amounted withNotice withReceipt changed periodsAfter pursesAfter made find arrearsBefore earlierArrears replaced added receivable stored payoutWords acted accepted step sum largest table filled cells ceilDiv energyCents energyDifference overTiers gives groupingAllowed groupSum outsideSum shortfallWithReserve groupShortfall outsideTier5 groupRetention payable fullClaim
 field-limits = record {
   participant-energy = refl;
   participant-amount = refl;
@@ -45,6 +45,11 @@ field-limits = record {
   most-cents-receipt = refl;
   participant-purse = refl;
   least-cents-purse = refl;
+  participant-washup = refl;
+  side-washup = refl;
+  old-quantity = refl;
+  new-quantity = refl;
+  price-washup = refl;
   most-cents-purse = refl;
 }
 
@@ -58,6 +63,7 @@ byte-limits = record {
   receipt = record { read = refl; read-short = refl; wrote = refl; wrote-bytes = refl; no-room = refl; no-room-bytes = refl };
   settle = record { read = refl; read-short = refl; wrote = refl; wrote-bytes = refl; no-room = refl; no-room-bytes = refl };
   purse = record { read = refl; read-short = refl; wrote = refl; wrote-bytes = refl; no-room = refl; no-room-bytes = refl };
+  washup = record { read = refl; read-short = refl; wrote = refl; wrote-bytes = refl; no-room = refl; no-room-bytes = refl };
   no-byte = refl;
   last-place = refl;
   at-end = refl;
@@ -70,7 +76,7 @@ byte-limits = record {
 }
 
 book-limits : BookLimits
-unfolding stateAfter zeros fresh raised sideTotal holds leaves amounted withNotice withReceipt withSettlement latePays withLateReceipt changed heldIn heldBy drawnFrom withDrawn pursesLeft periodsAfter pursesAfter made find arrearsBefore earlierArrears replaced removed added receivable stored payoutWords acted accepted step sum largest table filled cells ceilDiv energyCents overTiers gives groupingAllowed groupSum outsideSum shortfallWithReserve groupShortfall outsideTier5 groupRetention payable fullClaim unpaid setOff arrears claim share leftFor tierShare met weight loss round run spread available revised scaledAbove scaledBelow deficit spent rounds paid held fill shortage latePayment
+unfolding stateAfter zeros fresh raised sideTotal holds leaves amounted withNotice withReceipt withSettlement latePays withLateReceipt changed heldIn heldBy drawnFrom withDrawn pursesLeft periodsAfter pursesAfter made find arrearsBefore earlierArrears replaced removed added receivable stored payoutWords acted accepted step sum largest table filled cells ceilDiv energyCents energyDifference overTiers gives groupingAllowed groupSum outsideSum shortfallWithReserve groupShortfall outsideTier5 groupRetention payable fullClaim unpaid setOff arrears claim share leftFor tierShare met weight loss round run spread available revised scaledAbove scaledBelow deficit spent rounds paid held fill shortage latePayment
 book-limits = record {
   least-n = (refl, refl);
   most-n = (refl, refl);
@@ -102,11 +108,15 @@ book-limits = record {
   total-owing-to = refl;
   energy-owing-to = (refl, refl);
   half-owing-to = (refl, refl);
+  washup-owing-by = (refl, refl);
+  washup-owing-to = (refl, refl);
+  washup-none = refl;
   both-full = refl;
   participant-energy = refl;
   participant-amount = refl;
   participant-receipt = refl;
   participant-purse = refl;
+  participant-washup = refl;
   payable = refl;
   payable-left = refl;
   arrears = refl;
@@ -116,6 +126,11 @@ book-limits = record {
   full-purse = refl;
   past-purse = refl;
   drawn-purse = refl;
+  most-below = refl;
+  least-below = refl;
+  number-zero = (refl, refl, refl);
+  largest-numbers = refl;
+  no-wrap = refl;
 }
 
 pub limits : Limits

@@ -27,10 +27,10 @@ use Rattle.book.proofs.rules.Passing.{receipt-inside}
 use Rattle.book.proofs.rules.ChangeLaws.{Changes}
 use Rattle.book.proofs.rules.StepLaws.{Names, accepted-names}
 use Rattle.book.proofs.rules.ValidLaws.{named-changes, view-pack, pack-valid}
-use Rattle.book.proofs.rules.ListLaws.{find-split}
+use Rattle.book.proofs.rules.ListLaws.{all-at, find-split}
 use Rattle.book.proofs.rules.CentsLaws.{held-replaced, held-removed}
 use Rattle.book.proofs.rules.DrawingLaws.{settling, settle-finds, settles-passes, by-drawing, after-fit, after-held, after-find, after-length, after-older, after-younger, after-checks, after-names, after-entered}
-use Rattle.book.proofs.records.Packing.{all-at, count-is, read-at, kept-held, put, stored}
+use Rattle.book.proofs.records.Packing.{count-is, read-at, kept-held, put, stored}
 use Rattle.book.proofs.records.Bounds.{held-bound, holds-within}
 use Rattle.book.proofs.records.Replies.{to-period}
 use Rattle.book.specs.inner.Ways.{Entered}

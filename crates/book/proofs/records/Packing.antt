@@ -4,7 +4,6 @@ use mathlib.Core.Path.{_≡_, refl, sym, ap, ap₂, subst, _∙_}
 use mathlib.Core.Logic.{⊎-elim}
 use mathlib.Core.List.{List, [], _∷_, _++_, append-assoc}
 use mathlib.Core.Bool.{true, false, cond}
-use native.Mathlib.Nat.{not-suc-le-zero}
 use native.Mathlib.Numerals.{add-one}
 use native.Mathlib.Omega.{arith}
 use borrow.Author.Tests.{eq-eqb, ne-eqb}
@@ -15,14 +14,10 @@ use Rattle.exact.proofs.Cases.{cases, le-or-lt}
 use Rattle.settlement.specs.declared.groups.Grouping.{Grouping}
 use Rattle.book.specs.rules.Periods.{fresh, raised}
 use Rattle.book.specs.rules.State.{State, view, pack, mostPeriods, centsHeld, heldBy, find, noPeriod, arrearsBefore, earlierArrears, replaced, removed, added, withPeriods, withPurses}
-use Rattle.book.specs.rules.Valid.{All, InBook, Valid}
+use Rattle.book.specs.rules.Valid.{InBook, Valid}
 use Rattle.book.specs.declared.Period.{Period}
 use Rattle.book.specs.declared.Book.{Book}
-
-pub all-at : {A : Type 0} (P : A → Type 0) (l : List A) (j : ℕ) (d : A) → j < length l → All P l → P (getD l j d)
-all-at P [] j d h u = absurd (not-suc-le-zero h)
-all-at P (x ∷ l) zero d h u = u .0
-all-at P (x ∷ l) (suc j) d h u = all-at P l j d (omega arith) (u .1)
+use Rattle.book.proofs.rules.ListLaws.{all-at}
 
 found-later : (m : ℕ) (p : Period) {l : List Period} (r : List Period) → (p .number ≡ m → ⊥) → l ≡ p ∷ r → find m l ≡ suc (find m r)
 unfolding find

@@ -2,10 +2,11 @@
 use Prim.Native.Nat.{ℕ, zero, suc}
 use mathlib.Core.Path.{_≡_, refl}
 use mathlib.Core.Bool.{Bool, true, false, cond, false≢true}
-use mathlib.Core.List.{List, [], _∷_}
+use mathlib.Core.List.{List, [], _∷_, _++_}
 use native.Mathlib.Omega.{arith}
 use borrow.Author.Tests.{lt-leb, le-leb, ltb-true, ltb-false, eq-eqb}
 use lib.Dec.{eqb, ltb, leb, eqb·suc-zero}
+use Rattle.exact.proofs.Cases.{cases, cases-eq}
 use Rattle.book.specs.Checks.{Check, on, refusal}
 use Rattle.book.specs.layouts.Allowed.{none}
 
@@ -44,6 +45,20 @@ all-pass [] q e = tt
 all-pass (c ∷ l) q e =
     let f = first-pass (c .fails) (c .number) (refusal l) (numbered l) q e in
     (f .0, all-pass l (f .1) (f .2))
+
+-- a last check that passes where those before it do is not the one that refuses
+abbrev without : ℕ → List Check → Bool
+without k [] = true
+without k (c ∷ l) = cond (eqb (c .number) k) false (without k l)
+
+number-differs : (j k : ℕ) (rest : Bool) → cond (eqb j k) false rest ≡ true → (j ≡ k → ⊥) × (rest ≡ true)
+number-differs j k rest = cases-eq (λ t. t ≡ true → (j ≡ k → ⊥) × (rest ≡ true)) j k (λ _ q. absurd (false≢true q)) (λ ne q. (ne, q))
+
+pub last-passes : (k : ℕ) (l : List Check) (t : Bool) → without (suc k) l ≡ true → (AllFalse (tests l) → t ≡ false) → refusal (l ++ (on t (suc k) ∷ [])) ≡ suc k → ⊥
+last-passes k [] t q f e = let z = rw (f tt) at e in omega (arith, z)
+last-passes k (c ∷ l) t q f e =
+    let d = number-differs (c .number) (suc k) (without (suc k) l) q in
+    cases (λ j. j ≡ suc k → ⊥) (c .fails) (λ _ r. d .0 r) (λ p r. last-passes k l t (d .1) (λ a. f (p, a)) r) e
 
 -- a last test of a limit
 pub within-last : (limit v : ℕ) → leb v limit ≡ none (ltb limit v ∷ [])

@@ -3,6 +3,7 @@ use Prim.Native.Nat.{ℕ, zero, suc, _+_, _<_}
 use mathlib.Core.Path.{_≡_, refl, sym, ap, subst, _∙_}
 use mathlib.Core.List.{List, [], _∷_, _++_}
 use mathlib.Core.Logic.{inl, inr}
+use native.Mathlib.Nat.{not-suc-le-zero}
 use native.Mathlib.Omega.{arith}
 use lib.ListN.{length, getD, take, drop, set}
 use lib.Seq.{split-at, set-split, getD-set-same, take-set-le, drop-set-lt}
@@ -24,6 +25,11 @@ module _ {A : Type 0} (P : A → Type 0) where
   pub all-right : (l r : List A) → All P (l ++ r) → All P r
   all-right [] r u = u
   all-right (x ∷ l) r u = all-right l r (u .1)
+
+pub all-at : {A : Type 0} (P : A → Type 0) (l : List A) (j : ℕ) (d : A) → j < length l → All P l → P (getD l j d)
+all-at P [] j d h u = absurd (not-suc-le-zero h)
+all-at P (x ∷ l) zero d h u = u .0
+all-at P (x ∷ l) (suc j) d h u = all-at P l j d (omega arith) (u .1)
 
 -- from two facts of each element a third
 pub all-both : {A : Type 0} (P Q R : A → Type 0) → ((x : A) → P x → Q x → R x) → (l : List A) → All P l → All Q l → All R l

@@ -1,7 +1,7 @@
 -- What an entry that passed the checks of its kind is known to be.
 use Prim.Native.Nat.{ℕ, zero, suc, _+_, _-_, _≤_, _<_}
 use mathlib.Core.Path.{_≡_, refl, subst}
-use mathlib.Core.Bool.{Bool, true, false, cond, not, true≢false, false≢true}
+use mathlib.Core.Bool.{Bool, true, false, not, true≢false, false≢true}
 use mathlib.Core.Logic.{_⊎_, inl, inr}
 use native.Mathlib.Nat.{pos-of-ne-zero}
 use native.Mathlib.Omega.{arith}
@@ -14,7 +14,7 @@ use Rattle.settlement.specs.Month.{sideLimit, tiers}
 use Rattle.book.specs.Checks.{refusal}
 use Rattle.book.specs.layouts.Entries.{kindOf, field}
 use Rattle.book.specs.layouts.Allowed.{centsLimit, tierOutside, receiptOutside, outside, allowed}
-use Rattle.book.specs.rules.Kinds.{isPurse, purseOf, purseCents}
+use Rattle.book.specs.rules.Kinds.{isPurse, purseOf, purseCents, landingSide}
 use Rattle.book.specs.rules.Periods.{isOpened, isNoticed, isSettled, sideTotal}
 use Rattle.book.specs.rules.Refusals.{receivable, amountChecks, noticeChecks, receiptChecks, settleChecks}
 use Rattle.book.specs.declared.Stage.{Stage}
@@ -59,8 +59,8 @@ tier-inside zero e = absurd (true≢false e)
 tier-inside (suc t) e = (omega arith, ltb-false tiers (suc t) (rw (eqb·suc-zero t) at e))
 
 -- the cents of a washup have a place on either side
-pub washed-placed : (side : ℕ) (negative : Bool) → side ≤ 1 → Placed (cond negative (1 - side) side) tiers
-washed-placed side negative l = placed _ tiers (cases (λ s. s ≤ 1) negative (λ _. omega arith) (λ _. l)) (λ _. (omega arith, omega arith))
+pub landing-placed : (side : ℕ) (negative : Bool) → side ≤ 1 → Placed (landingSide negative side) tiers
+landing-placed side negative l = placed _ tiers (cases (λ s. s ≤ 1) negative (λ _. omega arith) (λ _. l)) (λ _. (omega arith, omega arith))
 
 -- what is known of the fields of an allowed entry
 pub energy-inside : (k i side quantity price : ℕ) → allowed (Energy k i side quantity price) ≡ true

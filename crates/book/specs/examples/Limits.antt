@@ -1,5 +1,5 @@
--- 01's limits, its examples of them (01, Reckoned examples) among them, and those of groups and reserves (02, a) and of
--- purses (02, c), each at the limit and one outside it. The numbers are the papers' own: a limit that code and definitions
+-- 01's limits, its examples of them (01, Reckoned examples) among them, and those of groups and reserves (02, a), of
+-- purses (02, c) and of washups (02, e), each at the limit and one outside it. The numbers are the papers' own: a limit that code and definitions
 -- share wrongly is found.
 use Prim.Native.Nat.{ℕ, _-_}
 use mathlib.Core.Path.{_≡_}
@@ -14,7 +14,7 @@ use Rattle.book.specs.rules.Step.{step}
 use Rattle.book.specs.examples.Months.{stateAfter, book, lent, noticeA, settledA, hundred, openings}
 use Rattle.book.specs.declared.makings.Making.{Making}
 use Rattle.book.specs.declared.entries.Entry.{Entry}
-use Rattle.book.specs.declared.entries.Entry.the-variants.{Open, Energy, Amount, Notice, Receipt, Settle, Purse}
+use Rattle.book.specs.declared.entries.Entry.the-variants.{Open, Energy, Amount, Notice, Receipt, Settle, Purse, Washup}
 
 -- the answers to entries, each of them given to the same book
 abbrev pub answersOf : State → List ℕ → List Entry → List ℕ
@@ -90,6 +90,11 @@ pub record FieldLimits : Type 0 where
   pub most-cents-receipt : of64 mostPayable (Receipt 1 63 10_000_000_000_000 ∷ Receipt 1 63 10_000_000_000_001 ∷ []) ≡ 0 ∷ 3 ∷ []
   pub participant-purse : of64 [] (Purse 63 1 ∷ Purse 64 1 ∷ []) ≡ 0 ∷ 3 ∷ []
   pub least-cents-purse : of64 [] (Purse 63 1 ∷ Purse 63 0 ∷ []) ≡ 0 ∷ 3 ∷ []
+  pub participant-washup : of64 opened (Washup 1 0 63 0 1 1 1 ∷ Washup 1 0 64 0 1 1 1 ∷ []) ≡ 0 ∷ 3 ∷ []
+  pub side-washup : of64 opened (Washup 1 0 0 0 1 1 1 ∷ Washup 1 0 0 1 1 1 1 ∷ Washup 1 0 0 2 1 1 1 ∷ []) ≡ 0 ∷ 0 ∷ 3 ∷ []
+  pub old-quantity : of64 opened (Washup 1 0 0 0 100_000_000 0 1 ∷ Washup 1 0 0 0 100_000_001 0 1 ∷ []) ≡ 0 ∷ 3 ∷ []
+  pub new-quantity : of64 opened (Washup 1 0 0 0 0 100_000_000 1 ∷ Washup 1 0 0 0 0 100_000_001 1 ∷ []) ≡ 0 ∷ 3 ∷ []
+  pub price-washup : of64 opened (Washup 1 0 0 0 0 100_000_000 10_000_000 ∷ Washup 1 0 0 0 0 0 10_000_001 ∷ []) ≡ 0 ∷ 3 ∷ []
   pub most-cents-purse : of64 [] (Purse 63 10_000_000_000_000 ∷ Purse 63 10_000_000_000_001 ∷ []) ≡ 0 ∷ 3 ∷ []
 
 -- reading and writing (01, Entries, and Refused, numbers 1, 2, 3 and 5), with each field at its largest
@@ -101,6 +106,8 @@ pub record ByteLimits : Type 0 where
   pub receipt : JustBytes (5 ∷ periodBytes ++ 63 ∷ centsBytes) (Receipt 4_294_967_295 63 10_000_000_000_000)
   pub settle : JustBytes (6 ∷ periodBytes) (Settle 4_294_967_295)
   pub purse : JustBytes (7 ∷ 63 ∷ centsBytes) (Purse 63 10_000_000_000_000)
+  pub washup : JustBytes (8 ∷ periodBytes ++ periodBytes ++ 63 ∷ 1 ∷ quantityBytes ++ quantityBytes ++ priceBytes)
+      (Washup 4_294_967_295 4_294_967_295 63 1 100_000_000 100_000_000 10_000_000)
   -- no byte, and no byte at the place
   pub no-byte : reading [] 0 ≡ record { answer = 1; place = 0; entry = [] }
   pub last-place : reading (9 ∷ 1 ∷ periodBytes) 1 ≡ record { answer = 0; place = 6; entry = Open 4_294_967_295 ∷ [] }
@@ -140,12 +147,12 @@ pub record BookLimits : Type 0 where
   pub twelve-periods : (of3 (openings 11) (Open 12 ∷ []) ≡ 0 ∷ []) × (of3 (openings 12) (Open 13 ∷ []) ≡ 7 ∷ [])
   pub freed-place : of3 (openings 12 ++ (Notice 1 ∷ Settle 1 ∷ [])) (Open 13 ∷ []) ≡ 0 ∷ []
   -- 8: a period that was not opened, or has left
-  pub not-opened : of3 opened (Energy 2 0 0 1 1 ∷ Amount 2 0 0 0 1 ∷ Notice 2 ∷ Receipt 2 0 1 ∷ Settle 2 ∷ Notice 0 ∷ []) ≡ 8 ∷ 8 ∷ 8 ∷ 8 ∷ 8 ∷ 8 ∷ []
+  pub not-opened : of3 opened (Energy 2 0 0 1 1 ∷ Amount 2 0 0 0 1 ∷ Notice 2 ∷ Receipt 2 0 1 ∷ Settle 2 ∷ Notice 0 ∷ Washup 2 1 0 0 1 1 1 ∷ []) ≡ 8 ∷ 8 ∷ 8 ∷ 8 ∷ 8 ∷ 8 ∷ 8 ∷ []
   pub has-left : of3 (Open 1 ∷ Notice 1 ∷ Settle 1 ∷ []) (Open 1 ∷ Notice 1 ∷ Open 2 ∷ []) ≡ 6 ∷ 8 ∷ 0 ∷ []
   -- 9: each kind at each stage
-  pub before-notice : of3 opened (Energy 1 0 0 1 1 ∷ Amount 1 0 0 0 1 ∷ Notice 1 ∷ Receipt 1 0 1 ∷ Settle 1 ∷ Purse 0 1 ∷ []) ≡ 0 ∷ 0 ∷ 0 ∷ 9 ∷ 9 ∷ 0 ∷ []
-  pub after-notice : of3 noticeA (Energy 7 0 0 1 1 ∷ Amount 7 0 0 0 1 ∷ Notice 7 ∷ Receipt 7 0 1 ∷ Settle 7 ∷ Purse 0 1 ∷ []) ≡ 9 ∷ 9 ∷ 9 ∷ 0 ∷ 0 ∷ 0 ∷ []
-  pub once-settled : of3 settledA (Energy 7 0 0 1 1 ∷ Amount 7 0 0 0 1 ∷ Notice 7 ∷ Receipt 7 0 1 ∷ Settle 7 ∷ Purse 0 1 ∷ []) ≡ 9 ∷ 9 ∷ 9 ∷ 0 ∷ 9 ∷ 0 ∷ []
+  pub before-notice : of3 opened (Energy 1 0 0 1 1 ∷ Amount 1 0 0 0 1 ∷ Notice 1 ∷ Receipt 1 0 1 ∷ Settle 1 ∷ Purse 0 1 ∷ Washup 1 0 0 0 1 1 1 ∷ []) ≡ 0 ∷ 0 ∷ 0 ∷ 9 ∷ 9 ∷ 0 ∷ 0 ∷ []
+  pub after-notice : of3 noticeA (Energy 7 0 0 1 1 ∷ Amount 7 0 0 0 1 ∷ Notice 7 ∷ Receipt 7 0 1 ∷ Settle 7 ∷ Purse 0 1 ∷ Washup 7 1 0 0 1 1 1 ∷ []) ≡ 9 ∷ 9 ∷ 9 ∷ 0 ∷ 0 ∷ 0 ∷ 9 ∷ []
+  pub once-settled : of3 settledA (Energy 7 0 0 1 1 ∷ Amount 7 0 0 0 1 ∷ Notice 7 ∷ Receipt 7 0 1 ∷ Settle 7 ∷ Purse 0 1 ∷ Washup 7 1 0 0 1 1 1 ∷ []) ≡ 9 ∷ 9 ∷ 9 ∷ 0 ∷ 9 ∷ 0 ∷ 9 ∷ []
   -- 10: a cent between the sides
   pub equal-sides : of3 (sides 100 99) (Notice 1 ∷ []) ≡ 0 ∷ []
   pub less-owing-to : of3 (sides 100 98) (Notice 1 ∷ []) ≡ 10 ∷ []
@@ -158,12 +165,19 @@ pub record BookLimits : Type 0 where
   pub total-owing-to : of3 (sides 1 9_999_999_999_998) (Amount 1 2 1 3 1 ∷ Amount 1 2 1 3 2 ∷ []) ≡ 0 ∷ 11 ∷ []
   pub energy-owing-to : (of3 (sides 1 9_999_999_999_987) (Energy 1 2 1 100 100 ∷ []) ≡ 0 ∷ []) × (of3 (sides 1 9_999_999_999_988) (Energy 1 2 1 100 100 ∷ []) ≡ 11 ∷ [])
   pub half-owing-to : (of3 (sides 1 9_999_999_999_965) (Energy 1 2 1 100 300 ∷ []) ≡ 0 ∷ []) × (of3 (sides 1 9_999_999_999_966) (Energy 1 2 1 100 300 ∷ []) ≡ 11 ∷ [])
+  -- a washup of 22 cents, on the side to which it is added, whichever is stated; one of no cents has room on a full side
+  pub washup-owing-by : (of3 (sides 9_999_999_999_978 1) (Washup 1 0 2 0 100 300 100 ∷ Washup 1 0 2 1 300 100 100 ∷ []) ≡ 0 ∷ 0 ∷ [])
+      × (of3 (sides 9_999_999_999_979 1) (Washup 1 0 2 0 100 300 100 ∷ Washup 1 0 2 1 300 100 100 ∷ Washup 1 0 2 1 100 300 100 ∷ []) ≡ 11 ∷ 11 ∷ 0 ∷ [])
+  pub washup-owing-to : (of3 (sides 1 9_999_999_999_977) (Washup 1 0 2 1 100 300 100 ∷ Washup 1 0 2 0 300 100 100 ∷ []) ≡ 0 ∷ 0 ∷ [])
+      × (of3 (sides 1 9_999_999_999_978) (Washup 1 0 2 1 100 300 100 ∷ Washup 1 0 2 0 300 100 100 ∷ Washup 1 0 2 0 100 300 100 ∷ []) ≡ 11 ∷ 11 ∷ 0 ∷ [])
+  pub washup-none : of3 (sides 10_000_000_000_000 9_999_999_999_999) (Washup 1 0 2 0 300 300 100 ∷ Washup 1 0 2 1 300 300 100 ∷ []) ≡ 0 ∷ 0 ∷ []
   pub both-full : of3 (sides 10_000_000_000_000 9_999_999_999_999) (Amount 1 2 0 0 1 ∷ Amount 1 2 1 3 1 ∷ Notice 1 ∷ []) ≡ 11 ∷ 11 ∷ 0 ∷ []
   -- 12: participants are 0 to n − 1
   pub participant-energy : of3 opened (Energy 1 2 0 1 1 ∷ Energy 1 3 0 1 1 ∷ []) ≡ 0 ∷ 12 ∷ []
   pub participant-amount : of3 opened (Amount 1 2 0 0 1 ∷ Amount 1 3 0 0 1 ∷ []) ≡ 0 ∷ 12 ∷ []
   pub participant-receipt : of3 noticeA (Receipt 7 2 1 ∷ Receipt 7 3 1 ∷ []) ≡ 0 ∷ 12 ∷ []
   pub participant-purse : of3 [] (Purse 2 1 ∷ Purse 3 1 ∷ []) ≡ 0 ∷ 12 ∷ []
+  pub participant-washup : of3 opened (Washup 1 0 2 0 1 1 1 ∷ Washup 1 0 3 0 1 1 1 ∷ []) ≡ 0 ∷ 12 ∷ []
   -- 13: what is payable and not yet received, and arrears once settled
   pub payable : of3 noticeA (Receipt 7 0 600 ∷ Receipt 7 0 601 ∷ []) ≡ 0 ∷ 13 ∷ []
   pub payable-left : of3 (noticeA ++ (Receipt 7 0 300 ∷ [])) (Receipt 7 0 300 ∷ Receipt 7 0 301 ∷ []) ≡ 0 ∷ 13 ∷ []
@@ -176,6 +190,14 @@ pub record BookLimits : Type 0 where
   pub full-purse : of3 (Purse 0 9_999_999_999_999 ∷ []) (Purse 0 1 ∷ Purse 0 2 ∷ Purse 1 10_000_000_000_000 ∷ []) ≡ 0 ∷ 15 ∷ 0 ∷ []
   pub past-purse : of3 (Purse 0 10_000_000_000_000 ∷ []) (Purse 0 1 ∷ []) ≡ 15 ∷ []
   pub drawn-purse : of3 ((Purse 0 10_000_000_000_000 ∷ []) ++ hundred 1 ++ (Settle 1 ∷ [])) (Purse 0 100 ∷ Purse 0 101 ∷ []) ≡ 0 ∷ 15 ∷ []
+  -- 16: an earlier period 1 to 24 below, whether it was opened or not; number 0 where that is so
+  pub most-below : of3 (Open 30 ∷ []) (Washup 30 6 0 0 1 1 1 ∷ Washup 30 5 0 0 1 1 1 ∷ Washup 30 0 0 0 1 1 1 ∷ []) ≡ 0 ∷ 16 ∷ 16 ∷ []
+  pub least-below : of3 (Open 30 ∷ []) (Washup 30 29 0 0 1 1 1 ∷ Washup 30 30 0 0 1 1 1 ∷ Washup 30 31 0 0 1 1 1 ∷ []) ≡ 0 ∷ 16 ∷ 16 ∷ []
+  pub number-zero : (of3 (Open 5 ∷ []) (Washup 5 0 0 0 1 1 1 ∷ []) ≡ 0 ∷ [])
+      × (of3 (Open 24 ∷ []) (Washup 24 0 0 0 1 1 1 ∷ []) ≡ 0 ∷ [])
+      × (of3 (Open 25 ∷ []) (Washup 25 0 0 0 1 1 1 ∷ []) ≡ 16 ∷ [])
+  pub largest-numbers : of3 (Open 4_294_967_295 ∷ []) (Washup 4_294_967_295 4_294_967_294 0 0 1 1 1 ∷ Washup 4_294_967_295 4_294_967_295 0 0 1 1 1 ∷ []) ≡ 0 ∷ 16 ∷ []
+  pub no-wrap : of3 (Open 1 ∷ []) (Washup 1 4_294_967_295 0 0 1 1 1 ∷ []) ≡ 16 ∷ []
 
 pub record Limits : Type 0 where
   pub fields : FieldLimits
