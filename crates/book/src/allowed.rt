@@ -91,33 +91,32 @@ pub fn is_allowed(e: Entry) -> bool
 {
     match e {
         Entry::Energy {
-            period: _,
             participant,
             side,
             quantity,
             price,
+            ..
         } => energy_allowed(participant, side, quantity, price),
         Entry::Amount {
-            period: _,
             participant,
             side,
             tier,
             cents,
+            ..
         } => amount_allowed(participant, side, tier, cents),
         Entry::Receipt {
-            period: _,
             participant,
             cents,
+            ..
         } => receipt_allowed(participant, cents),
         Entry::Purse { participant, cents } => receipt_allowed(participant, cents),
         Entry::Washup {
-            period: _,
-            earlier: _,
             participant,
             side,
             old,
             new,
             price,
+            ..
         } => washup_allowed(participant, side, old, new, price),
         _ => true,
     }

@@ -74,41 +74,14 @@ pub fn kind_of(e: Entry) -> usize
     ensures { λ r. ⌜ r ≡ kindOf e ⌝ }
 {
     match e {
-        Entry::Open { period: _ } => OPEN,
-        Entry::Energy {
-            period: _,
-            participant: _,
-            side: _,
-            quantity: _,
-            price: _,
-        } => ENERGY,
-        Entry::Amount {
-            period: _,
-            participant: _,
-            side: _,
-            tier: _,
-            cents: _,
-        } => AMOUNT,
-        Entry::Notice { period: _ } => NOTICE,
-        Entry::Receipt {
-            period: _,
-            participant: _,
-            cents: _,
-        } => RECEIPT,
-        Entry::Settle { period: _ } => SETTLE,
-        Entry::Purse {
-            participant: _,
-            cents: _,
-        } => PURSE,
-        Entry::Washup {
-            period: _,
-            earlier: _,
-            participant: _,
-            side: _,
-            old: _,
-            new: _,
-            price: _,
-        } => WASHUP,
+        Entry::Open { .. } => OPEN,
+        Entry::Energy { .. } => ENERGY,
+        Entry::Amount { .. } => AMOUNT,
+        Entry::Notice { .. } => NOTICE,
+        Entry::Receipt { .. } => RECEIPT,
+        Entry::Settle { .. } => SETTLE,
+        Entry::Purse { .. } => PURSE,
+        Entry::Washup { .. } => WASHUP,
     }
 }
 

@@ -144,13 +144,13 @@ pub fn period_answer(p: Period, n: usize, e: Entry, barred: bool) -> Answer
         );
     }
     match e {
-        Entry::Notice { period: _ } => notice_answer(p, n),
+        Entry::Notice { .. } => notice_answer(p, n),
         Entry::Receipt {
-            period: _,
             participant,
             cents,
+            ..
         } => receipt_answer(p, n, participant as usize, barred, cents),
-        Entry::Settle { period: _ } => settle_answer(p),
+        Entry::Settle { .. } => settle_answer(p),
         _ => Answer::Accepted,
     }
 }

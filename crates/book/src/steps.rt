@@ -54,7 +54,7 @@ pub fn is_barred(b: Book, e: Entry) -> bool
         Entry::Receipt {
             period,
             participant,
-            cents: _,
+            ..
         } => has_earlier_arrears(b, participant as usize, period),
         _ => false,
     }

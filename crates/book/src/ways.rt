@@ -20,9 +20,9 @@ use crate::purses::purse_answer;
 use crate::reader::Reading;
 use crate::refusals::opening_answer;
 
-// The way of the entry at a place: energy, an amount or a washup of the period at place j of the book, another entry that names the
-// period there, an opening or a purse entry that is accepted, an entry that is refused by what the book shows without a look at
-// a period (4 to 8, 12, 15), or none.
+// The way of the entry at a place: energy, an amount or a washup of the period at place j of the book, another entry that
+// names the period there, an opening or a purse entry that is accepted, an entry that is refused by what the book shows
+// without a look at a period (4 to 8, 12, 15), or none.
 pub enum Way {
     Amounts { j: usize },
     Named { j: usize, entry: Entry, next: usize },

@@ -36,7 +36,7 @@ struct Field {
     value: u64,
 }
 
-// The bytes of an entry with a side, whose last two fields have widths of their own.
+// The bytes of energy or of an amount, whose last two fields have widths of their own.
 fn put_sided(
     out: &mut [u8],
     kind: u8,

@@ -61,7 +61,7 @@ fn answer_at_front(left: &[u8]) -> u64
     ensures { λ r. ⌜ r ≡ reading (now (left .entry)) 0 .answer ⌝ }
 {
     match book::read_next(left, 0) {
-        Reading::Found { entry: _, next: _ } => 0,
+        Reading::Found { .. } => 0,
         Reading::Short => 1,
         Reading::Unknown => 2,
         Reading::Outside => 3,

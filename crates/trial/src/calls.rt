@@ -42,7 +42,8 @@ pub enum Call {
     Stop,
 }
 
-// What APPLY and WRITE are called with: all fields, whatever the kind, and how many words or bytes to lend.
+// What APPLY and WRITE are called with: all fields, whatever the kind, and how many words or bytes to lend. The new quantity of
+// a washup is in `quantity`.
 pub struct Fields {
     pub kind: u8,
     pub period: u32,

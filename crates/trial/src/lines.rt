@@ -44,7 +44,7 @@ pub fn layout_of(e: Entry) -> Layout
     ensures { λ r. ⌜ r .count ≤ 7 ⌝ }
 {
     match e {
-        Entry::Open { period } => period_alone(1, period),
+        Entry::Open { period } => three(1, 1, period as u64, 0, 0),
         Entry::Energy {
             period,
             participant,
@@ -59,22 +59,14 @@ pub fn layout_of(e: Entry) -> Layout
             tier,
             cents,
         } => five(3, period, participant, side, tier as u64, cents),
-        Entry::Notice { period } => period_alone(4, period),
+        Entry::Notice { period } => three(4, 1, period as u64, 0, 0),
         Entry::Receipt {
             period,
             participant,
             cents,
-        } => Layout {
-            kind: 5,
-            count: 3,
-            fields: [period as u64, participant as u64, cents, 0, 0, 0, 0],
-        },
-        Entry::Settle { period } => period_alone(6, period),
-        Entry::Purse { participant, cents } => Layout {
-            kind: 7,
-            count: 2,
-            fields: [participant as u64, cents, 0, 0, 0, 0, 0],
-        },
+        } => three(5, 3, period as u64, participant as u64, cents),
+        Entry::Settle { period } => three(6, 1, period as u64, 0, 0),
+        Entry::Purse { participant, cents } => three(7, 2, participant as u64, cents, 0),
         Entry::Washup {
             period,
             earlier,
@@ -83,30 +75,19 @@ pub fn layout_of(e: Entry) -> Layout
             old,
             new,
             price,
-        } => Layout {
-            kind: 8,
-            count: 7,
-            fields: [
-                period as u64,
-                earlier as u64,
-                participant as u64,
-                side as u64,
-                old as u64,
-                new as u64,
-                price as u64,
-            ],
-        },
+        } => seven(period, earlier, participant, side, old, new, price),
     }
 }
 
-// The layout of a kind whose only field is its period.
-fn period_alone(kind: u64, period: u32) -> Layout
+// The layout of a kind with up to three fields.
+fn three(kind: u64, count: usize, first: u64, second: u64, third: u64) -> Layout
+    requires { ⌜ count ≤ 3 ⌝ }
     ensures { λ r. ⌜ r .count ≤ 7 ⌝ }
 {
     Layout {
         kind: kind,
-        count: 1,
-        fields: [period as u64, 0, 0, 0, 0, 0, 0],
+        count: count,
+        fields: [first, second, third, 0, 0, 0, 0],
     }
 }
 
@@ -125,6 +106,33 @@ fn five(kind: u64, period: u32, participant: u8, side: u8, fourth: u64, fifth: u
             fifth,
             0,
             0,
+        ],
+    }
+}
+
+// The layout of a washup, the kind with seven fields.
+fn seven(
+    period: u32,
+    earlier: u32,
+    participant: u8,
+    side: u8,
+    old: u32,
+    new: u32,
+    price: u32,
+) -> Layout
+    ensures { λ r. ⌜ r .count ≤ 7 ⌝ }
+{
+    Layout {
+        kind: 8,
+        count: 7,
+        fields: [
+            period as u64,
+            earlier as u64,
+            participant as u64,
+            side as u64,
+            old as u64,
+            new as u64,
+            price as u64,
         ],
     }
 }

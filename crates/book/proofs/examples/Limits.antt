@@ -64,6 +64,7 @@ byte-limits = record {
   settle = record { read = refl; read-short = refl; wrote = refl; wrote-bytes = refl; no-room = refl; no-room-bytes = refl };
   purse = record { read = refl; read-short = refl; wrote = refl; wrote-bytes = refl; no-room = refl; no-room-bytes = refl };
   washup = record { read = refl; read-short = refl; wrote = refl; wrote-bytes = refl; no-room = refl; no-room-bytes = refl };
+  washup-order = record { read = refl; read-short = refl; wrote = refl; wrote-bytes = refl; no-room = refl; no-room-bytes = refl };
   no-byte = refl;
   last-place = refl;
   at-end = refl;
@@ -126,6 +127,7 @@ book-limits = record {
   full-purse = refl;
   past-purse = refl;
   drawn-purse = refl;
+  earlier-there = (refl, refl);
   most-below = refl;
   least-below = refl;
   number-zero = (refl, refl, refl);

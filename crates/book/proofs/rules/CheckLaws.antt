@@ -46,7 +46,7 @@ all-pass (c ∷ l) q e =
     let f = first-pass (c .fails) (c .number) (refusal l) (numbered l) q e in
     (f .0, all-pass l (f .1) (f .2))
 
--- a last check that passes where those before it do is not the one that refuses
+-- no check of a list has that number
 abbrev without : ℕ → List Check → Bool
 without k [] = true
 without k (c ∷ l) = cond (eqb (c .number) k) false (without k l)
@@ -54,6 +54,7 @@ without k (c ∷ l) = cond (eqb (c .number) k) false (without k l)
 number-differs : (j k : ℕ) (rest : Bool) → cond (eqb j k) false rest ≡ true → (j ≡ k → ⊥) × (rest ≡ true)
 number-differs j k rest = cases-eq (λ t. t ≡ true → (j ≡ k → ⊥) × (rest ≡ true)) j k (λ _ q. absurd (false≢true q)) (λ ne q. (ne, q))
 
+-- a last check that passes where those before it do is not the one that refuses
 pub last-passes : (k : ℕ) (l : List Check) (t : Bool) → without (suc k) l ≡ true → (AllFalse (tests l) → t ≡ false) → refusal (l ++ (on t (suc k) ∷ [])) ≡ suc k → ⊥
 last-passes k [] t q f e = let z = rw (f tt) at e in omega (arith, z)
 last-passes k (c ∷ l) t q f e =

@@ -14,7 +14,7 @@ use Rattle.settlement.specs.Month.{sideLimit, tiers}
 use Rattle.book.specs.Checks.{refusal}
 use Rattle.book.specs.layouts.Entries.{kindOf, field}
 use Rattle.book.specs.layouts.Allowed.{centsLimit, tierOutside, receiptOutside, outside, allowed}
-use Rattle.book.specs.rules.Kinds.{isPurse, purseOf, purseCents, landingSide}
+use Rattle.book.specs.rules.Kinds.{isPurse, purseOf, purseCents, sideOfDifference}
 use Rattle.book.specs.rules.Periods.{isOpened, isNoticed, isSettled, sideTotal}
 use Rattle.book.specs.rules.Refusals.{receivable, amountChecks, noticeChecks, receiptChecks, settleChecks}
 use Rattle.book.specs.declared.Stage.{Stage}
@@ -59,8 +59,8 @@ tier-inside zero e = absurd (true≢false e)
 tier-inside (suc t) e = (omega arith, ltb-false tiers (suc t) (rw (eqb·suc-zero t) at e))
 
 -- the cents of a washup have a place on either side
-pub landing-placed : (side : ℕ) (negative : Bool) → side ≤ 1 → Placed (landingSide negative side) tiers
-landing-placed side negative l = placed _ tiers (cases (λ s. s ≤ 1) negative (λ _. omega arith) (λ _. l)) (λ _. (omega arith, omega arith))
+pub difference-placed : (side : ℕ) (negative : Bool) → side ≤ 1 → Placed (sideOfDifference negative side) tiers
+difference-placed side negative l = placed _ tiers (cases (λ s. s ≤ 1) negative (λ _. omega arith) (λ _. l)) (λ _. (omega arith, omega arith))
 
 -- what is known of the fields of an allowed entry
 pub energy-inside : (k i side quantity price : ℕ) → allowed (Energy k i side quantity price) ≡ true

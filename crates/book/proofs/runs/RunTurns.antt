@@ -1,5 +1,5 @@
--- A turn of the block run: an entry that names a period in the book, an opening, a purse entry, a refusal, and a run of energy and
--- amounts.
+-- A turn of the block run: an entry that names a period in the book, an opening, a purse entry, a refusal, and a run of
+-- energy, amounts and washups.
 use Prim.Native.Nat.{ℕ, zero, suc, _+_, _-_, _≤_, _<_}
 use mathlib.Core.Path.{_≡_, refl, sym, ap, subst, subst₂, _∙_}
 use mathlib.Core.Bool.{Bool, true, false}

@@ -1,6 +1,6 @@
 -- 01's limits, its examples of them (01, Reckoned examples) among them, and those of groups and reserves (02, a), of
--- purses (02, c) and of washups (02, e), each at the limit and one outside it. The numbers are the papers' own: a limit that code and definitions
--- share wrongly is found.
+-- purses (02, c) and of washups (02, e), each at the limit and one outside it. The numbers are the papers' own: a limit that
+-- code and definitions share wrongly is found.
 use Prim.Native.Nat.{ℕ, _-_}
 use mathlib.Core.Path.{_≡_}
 use mathlib.Core.List.{List, [], _∷_, _++_}
@@ -90,12 +90,12 @@ pub record FieldLimits : Type 0 where
   pub most-cents-receipt : of64 mostPayable (Receipt 1 63 10_000_000_000_000 ∷ Receipt 1 63 10_000_000_000_001 ∷ []) ≡ 0 ∷ 3 ∷ []
   pub participant-purse : of64 [] (Purse 63 1 ∷ Purse 64 1 ∷ []) ≡ 0 ∷ 3 ∷ []
   pub least-cents-purse : of64 [] (Purse 63 1 ∷ Purse 63 0 ∷ []) ≡ 0 ∷ 3 ∷ []
+  pub most-cents-purse : of64 [] (Purse 63 10_000_000_000_000 ∷ Purse 63 10_000_000_000_001 ∷ []) ≡ 0 ∷ 3 ∷ []
   pub participant-washup : of64 opened (Washup 1 0 63 0 1 1 1 ∷ Washup 1 0 64 0 1 1 1 ∷ []) ≡ 0 ∷ 3 ∷ []
   pub side-washup : of64 opened (Washup 1 0 0 0 1 1 1 ∷ Washup 1 0 0 1 1 1 1 ∷ Washup 1 0 0 2 1 1 1 ∷ []) ≡ 0 ∷ 0 ∷ 3 ∷ []
   pub old-quantity : of64 opened (Washup 1 0 0 0 100_000_000 0 1 ∷ Washup 1 0 0 0 100_000_001 0 1 ∷ []) ≡ 0 ∷ 3 ∷ []
   pub new-quantity : of64 opened (Washup 1 0 0 0 0 100_000_000 1 ∷ Washup 1 0 0 0 0 100_000_001 1 ∷ []) ≡ 0 ∷ 3 ∷ []
   pub price-washup : of64 opened (Washup 1 0 0 0 0 100_000_000 10_000_000 ∷ Washup 1 0 0 0 0 0 10_000_001 ∷ []) ≡ 0 ∷ 3 ∷ []
-  pub most-cents-purse : of64 [] (Purse 63 10_000_000_000_000 ∷ Purse 63 10_000_000_000_001 ∷ []) ≡ 0 ∷ 3 ∷ []
 
 -- reading and writing (01, Entries, and Refused, numbers 1, 2, 3 and 5), with each field at its largest
 pub record ByteLimits : Type 0 where
@@ -108,6 +108,8 @@ pub record ByteLimits : Type 0 where
   pub purse : JustBytes (7 ∷ 63 ∷ centsBytes) (Purse 63 10_000_000_000_000)
   pub washup : JustBytes (8 ∷ periodBytes ++ periodBytes ++ 63 ∷ 1 ∷ quantityBytes ++ quantityBytes ++ priceBytes)
       (Washup 4_294_967_295 4_294_967_295 63 1 100_000_000 100_000_000 10_000_000)
+  -- unlike numbers: period 30, earlier 18, from 10,000 to 30,000 kWh
+  pub washup-order : JustBytes (8 ∷ 30 ∷ 0 ∷ 0 ∷ 0 ∷ 18 ∷ 0 ∷ 0 ∷ 0 ∷ 2 ∷ 0 ∷ 16 ∷ 39 ∷ 0 ∷ 0 ∷ 48 ∷ 117 ∷ 0 ∷ 0 ∷ 1 ∷ 0 ∷ 0 ∷ 0 ∷ []) (Washup 30 18 2 0 10_000 30_000 1)
   -- no byte, and no byte at the place
   pub no-byte : reading [] 0 ≡ record { answer = 1; place = 0; entry = [] }
   pub last-place : reading (9 ∷ 1 ∷ periodBytes) 1 ≡ record { answer = 0; place = 6; entry = Open 4_294_967_295 ∷ [] }
@@ -170,7 +172,7 @@ pub record BookLimits : Type 0 where
       × (of3 (sides 9_999_999_999_979 1) (Washup 1 0 2 0 100 300 100 ∷ Washup 1 0 2 1 300 100 100 ∷ Washup 1 0 2 1 100 300 100 ∷ []) ≡ 11 ∷ 11 ∷ 0 ∷ [])
   pub washup-owing-to : (of3 (sides 1 9_999_999_999_977) (Washup 1 0 2 1 100 300 100 ∷ Washup 1 0 2 0 300 100 100 ∷ []) ≡ 0 ∷ 0 ∷ [])
       × (of3 (sides 1 9_999_999_999_978) (Washup 1 0 2 1 100 300 100 ∷ Washup 1 0 2 0 300 100 100 ∷ Washup 1 0 2 0 100 300 100 ∷ []) ≡ 11 ∷ 11 ∷ 0 ∷ [])
-  pub washup-none : of3 (sides 10_000_000_000_000 9_999_999_999_999) (Washup 1 0 2 0 300 300 100 ∷ Washup 1 0 2 1 300 300 100 ∷ []) ≡ 0 ∷ 0 ∷ []
+  pub washup-none : of3 (sides 10_000_000_000_000 9_999_999_999_999) (Washup 1 0 2 0 300 300 100 ∷ Washup 1 0 2 1 300 300 100 ∷ Washup 1 0 2 0 300 299 100 ∷ []) ≡ 0 ∷ 0 ∷ 0 ∷ []
   pub both-full : of3 (sides 10_000_000_000_000 9_999_999_999_999) (Amount 1 2 0 0 1 ∷ Amount 1 2 1 3 1 ∷ Notice 1 ∷ []) ≡ 11 ∷ 11 ∷ 0 ∷ []
   -- 12: participants are 0 to n − 1
   pub participant-energy : of3 opened (Energy 1 2 0 1 1 ∷ Energy 1 3 0 1 1 ∷ []) ≡ 0 ∷ 12 ∷ []
@@ -190,7 +192,9 @@ pub record BookLimits : Type 0 where
   pub full-purse : of3 (Purse 0 9_999_999_999_999 ∷ []) (Purse 0 1 ∷ Purse 0 2 ∷ Purse 1 10_000_000_000_000 ∷ []) ≡ 0 ∷ 15 ∷ 0 ∷ []
   pub past-purse : of3 (Purse 0 10_000_000_000_000 ∷ []) (Purse 0 1 ∷ []) ≡ 15 ∷ []
   pub drawn-purse : of3 ((Purse 0 10_000_000_000_000 ∷ []) ++ hundred 1 ++ (Settle 1 ∷ [])) (Purse 0 100 ∷ Purse 0 101 ∷ []) ≡ 0 ∷ 15 ∷ []
-  -- 16: an earlier period 1 to 24 below, whether it was opened or not; number 0 where that is so
+  -- 16: an earlier period 1 to 24 below, whether it is in the book, has left or was never opened; number 0 where that is so
+  pub earlier-there : (of3 (Open 29 ∷ Open 30 ∷ []) (Washup 30 29 0 0 1 1 1 ∷ []) ≡ 0 ∷ [])
+      × (of3 (Open 29 ∷ Notice 29 ∷ Settle 29 ∷ Open 30 ∷ []) (Washup 30 29 0 0 1 1 1 ∷ []) ≡ 0 ∷ [])
   pub most-below : of3 (Open 30 ∷ []) (Washup 30 6 0 0 1 1 1 ∷ Washup 30 5 0 0 1 1 1 ∷ Washup 30 0 0 0 1 1 1 ∷ []) ≡ 0 ∷ 16 ∷ 16 ∷ []
   pub least-below : of3 (Open 30 ∷ []) (Washup 30 29 0 0 1 1 1 ∷ Washup 30 30 0 0 1 1 1 ∷ Washup 30 31 0 0 1 1 1 ∷ []) ≡ 0 ∷ 16 ∷ 16 ∷ []
   pub number-zero : (of3 (Open 5 ∷ []) (Washup 5 0 0 0 1 1 1 ∷ []) ≡ 0 ∷ [])

@@ -62,8 +62,9 @@ twoLog = record { entry = Settle 2; words = 0 ∷ 50 ∷ [] } ∷ record { entry
 abbrev pub barredLog : Log
 barredLog = record { entry = Settle 1; words = 0 ∷ 100 ∷ [] } ∷ logged (inArrears ++ (Purse 0 150 ∷ Settle 3 ∷ [])) []
 
-abbrev pub retained : Account → ℕ → ℕ
-retained = retention 2 (separate 2 .grouping)
+-- retention in a book of n in groups of one, by an account
+abbrev pub retained : ℕ → Account → ℕ → ℕ
+retained n = retention n (separate n .grouping)
 
 pub record PurseExamples : Type 0 where
   -- a purse that covers part, all, and more than what is unpaid
@@ -93,12 +94,12 @@ pub record PurseExamples : Type 0 where
   pub three-before-fifteen : answersAfter 3 (Purse 0 10_000_000_000_000 ∷ []) (Purse 0 10_000_000_000_001 ∷ []) ≡ 3 ∷ []
   pub no-participant : answersAfter 3 [] (Purse 3 10_000_000_000_000 ∷ Purse 3 1 ∷ []) ≡ 12 ∷ 12 ∷ []
   -- demand 3, from the log of the two periods: what was drawn is among the receipts before each settle entry
-  pub drawn-first : account 2 retained 1 twoLog .before 0 ≡ 100
-  pub drawn-second : account 2 retained 2 twoLog .before 0 ≡ 50
-  pub purse-then : purse 2 retained 0 twoLog ≡ 0
+  pub drawn-first : account 2 (retained 2) 1 twoLog .before 0 ≡ 100
+  pub drawn-second : account 2 (retained 2) 2 twoLog .before 0 ≡ 50
+  pub purse-then : purse 2 (retained 2) 0 twoLog ≡ 0
   pub received-once : moneyReceived twoLog ≡ 150
   pub paid-out : moneyPaid 2 twoLog ≡ 150
-  pub none-held : moneyHeld 2 retained twoLog (2 ∷ []) ≡ 0
-  pub barred-third : account 2 retained 3 barredLog .before 0 ≡ 0
-  pub drawn-oldest : account 2 retained 1 barredLog .before 0 ≡ 100
-  pub purse-left : purse 2 retained 0 barredLog ≡ 50
+  pub none-held : moneyHeld 2 (retained 2) twoLog (2 ∷ []) ≡ 0
+  pub barred-third : account 2 (retained 2) 3 barredLog .before 0 ≡ 0
+  pub drawn-oldest : account 2 (retained 2) 1 barredLog .before 0 ≡ 100
+  pub purse-left : purse 2 (retained 2) 0 barredLog ≡ 50

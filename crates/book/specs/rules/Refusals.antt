@@ -35,7 +35,7 @@ sideChecks n stage total i misdated cents =
     ∷ on (ltb sideLimit (total + cents)) 11
     ∷ []
 
--- kinds 2, 3 and 8, by what they add to the period that the entry names: 11 is about the side to which it is added
+-- kinds 2, 3 and 8, by what the entry adds to the period that it names; 11 is about the side to which this is added
 abbrev pub amountChecks : ℕ → Period → Bool → Addition → List Check
 amountChecks n p misdated a = sideChecks n (p .stage) (sideTotal n p (a .side)) (a .participant) misdated (a .cents)
 
