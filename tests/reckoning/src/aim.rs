@@ -36,6 +36,8 @@ pub struct Manner {
     pub step: u64,
     /// So many of 100 fitting proposals are money for purses.
     pub purses: u64,
+    /// So many of 100 proposals for a period before its notice are washups.
+    pub washups: u64,
 }
 
 pub struct Aim {
@@ -44,11 +46,14 @@ pub struct Aim {
     pub manner: Manner,
     /// Periods whose sides are being made equal.
     closing: BTreeSet<u32>,
+    /// The washup that was proposed last.
+    pub last_washup: Option<Entry>,
 }
 
 impl Aim {
     pub fn new(random: Random, making: &Making, manner: Manner) -> Aim {
-        Aim { random, book: Book::make(making).0, manner, closing: BTreeSet::new() }
+        let (book, closing) = (Book::make(making).0, BTreeSet::new());
+        Aim { random, book, manner, closing, last_washup: None }
     }
 
     /// The next entry; the book is not changed.
@@ -108,11 +113,19 @@ impl Aim {
         self.energy_or_amount(number)
     }
 
-    /// Energy or an amount for a period before its notice.
+    /// What a side of a period has room for; a wrong version's may be past its bound.
+    pub fn room_on(&self, number: u32, side: u8) -> u64 {
+        MOST_TOTAL.saturating_sub(self.book.periods[&number].sums.total(side)) as u64
+    }
+
+    /// Energy, a washup or an amount for a period before its notice.
     pub fn energy_or_amount(&mut self, number: u32) -> Entry {
+        if self.random.chance(self.manner.washups, 100) {
+            return self.washup(number);
+        }
         let side = self.random.below(2) as u8;
-        let room = MOST_TOTAL - self.book.periods[&number].sums.total(side);
-        let half = energies::half_for(&mut self.random, room);
+        let room = self.room_on(number, side);
+        let half = energies::half_for(&mut self.random, room.into());
         if let Some(half) = half.filter(|_| self.random.chance(2, 3)) {
             return self.energy_on(number, side, half);
         }
@@ -120,7 +133,7 @@ impl Aim {
             let energy = energies::any(&mut self.random, self.manner.scale);
             return self.energy_on(number, side, energy);
         }
-        let cents = self.any_cents(room as u64);
+        let cents = self.any_cents(room);
         self.amount_on(number, side, cents)
     }
 

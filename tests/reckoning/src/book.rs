@@ -1,13 +1,14 @@
 //! The book: which entries it accepts, and what each accepted entry does.
 
 use crate::codec::{
-    Entry, Field, AMOUNT, ENERGY, MOST_CENTS, NOTICE, OPEN, PURSE, RECEIPT, SETTLE,
+    Entry, Field, AMOUNT, ENERGY, MOST_CENTS, NOTICE, OPEN, PURSE, RECEIPT, SETTLE, WASHUP,
 };
 use crate::making::Making;
 use crate::month;
 use crate::period::{Period, Stage};
 use crate::purse::{Payer, MOST_PURSE};
 use crate::refusals::*;
+use crate::washup::Addition;
 use crate::ways::{self, Ways};
 use std::collections::BTreeMap;
 
@@ -166,6 +167,7 @@ impl Book {
                 let total = period.sums.total(entry.side) + (self.ways.tested)(entry);
                 (total > MOST_TOTAL).then_some(TOTAL_PASSES_BOUND)
             }
+            WASHUP => self.refusal_of_washup(period, entry),
             NOTICE => (period.sums.total(0) != period.sums.total(1)).then_some(SIDES_UNEQUAL),
             RECEIPT if self.barred(entry.period, participant) => Some(EARLIER_ARREARS),
             RECEIPT => {
@@ -174,6 +176,15 @@ impl Book {
             }
             _ => None,
         }
+    }
+
+    /// 16 before 11, which is tested on the side that the amount lands on.
+    fn refusal_of_washup(&self, period: &Period, entry: &Entry) -> Option<u8> {
+        if !(self.ways.earlier_stands)(self, entry) {
+            return Some(EARLIER_PERIOD_OUTSIDE);
+        }
+        let passes = |to: Addition| period.sums.total(to.side) + to.cents > MOST_TOTAL;
+        (self.ways.washup_tested)(entry).is_some_and(passes).then_some(TOTAL_PASSES_BOUND)
     }
 
     /// Applies an entry; an accepted one sets the first n payout words.
@@ -221,6 +232,12 @@ impl Book {
         let result = match entry.kind {
             ENERGY | AMOUNT => {
                 period.sums.add(participant, entry.side, tier(entry), (self.ways.added)(entry));
+                (nothing, 0)
+            }
+            WASHUP => {
+                if let Some(Addition { side, tier, cents }) = (self.ways.washup_added)(entry) {
+                    period.sums.add(participant, side, tier, cents);
+                }
                 (nothing, 0)
             }
             NOTICE => {

@@ -10,15 +10,17 @@ pub const RECEIPT: u8 = 5;
 pub const SETTLE: u8 = 6;
 /// Money for a participant's purse (02, c).
 pub const PURSE: u8 = 7;
+/// A revised quantity of an earlier period (02, e).
+pub const WASHUP: u8 = 8;
 /// Kinds run from OPEN to this one.
-pub const LAST_KIND: u8 = PURSE;
+pub const LAST_KIND: u8 = WASHUP;
 
 pub const LAST_PARTICIPANT: u8 = 63;
 pub const MOST_QUANTITY: u32 = 100_000_000;
 pub const MOST_PRICE: u32 = 10_000_000;
 pub const MOST_CENTS: u64 = 10_000_000_000_000;
 /// The kind's byte and the longest body.
-pub const LONGEST_ENTRY: usize = 16;
+pub const LONGEST_ENTRY: usize = 23;
 
 #[derive(Clone, Copy, Debug, PartialEq, Eq)]
 pub enum Field {
@@ -29,6 +31,8 @@ pub enum Field {
     Quantity,
     Price,
     Cents,
+    EarlierPeriod,
+    OldQuantity,
 }
 
 use Field::*;
@@ -41,9 +45,12 @@ pub struct Entry {
     pub participant: u8,
     pub side: u8,
     pub tier: u8,
+    /// A washup's is the new one.
     pub quantity: u32,
     pub price: u32,
     pub cents: u64,
+    pub earlier_period: u32,
+    pub old_quantity: u32,
 }
 
 pub fn kind_exists(kind: u8) -> bool {
@@ -58,6 +65,7 @@ pub fn layout(kind: u8) -> &'static [Field] {
         AMOUNT => &[Period, Participant, Side, Tier, Cents],
         RECEIPT => &[Period, Participant, Cents],
         PURSE => &[Participant, Cents],
+        WASHUP => &[Period, EarlierPeriod, Participant, Side, OldQuantity, Quantity, Price],
         _ => panic!("no such kind: {kind}"),
     }
 }
@@ -65,7 +73,7 @@ pub fn layout(kind: u8) -> &'static [Field] {
 pub fn width(field: Field) -> usize {
     match field {
         Participant | Side | Tier => 1,
-        Period | Quantity | Price => 4,
+        Period | EarlierPeriod | Quantity | OldQuantity | Price => 4,
         Cents => 8,
     }
 }
@@ -103,6 +111,19 @@ impl Entry {
         Entry { kind: PURSE, participant, cents, ..Entry::default() }
     }
 
+    pub fn washup(
+        period: u32,
+        earlier_period: u32,
+        participant: u8,
+        side: u8,
+        old_quantity: u32,
+        quantity: u32,
+        price: u32,
+    ) -> Entry {
+        let energy = Entry::energy(period, participant, side, quantity, price);
+        Entry { kind: WASHUP, earlier_period, old_quantity, ..energy }
+    }
+
     pub fn value(&self, field: Field) -> u64 {
         match field {
             Period => self.period.into(),
@@ -112,6 +133,8 @@ impl Entry {
             Quantity => self.quantity.into(),
             Price => self.price.into(),
             Cents => self.cents,
+            EarlierPeriod => self.earlier_period.into(),
+            OldQuantity => self.old_quantity.into(),
         }
     }
 
@@ -125,6 +148,8 @@ impl Entry {
             Quantity => self.quantity = value as u32,
             Price => self.price = value as u32,
             Cents => self.cents = value,
+            EarlierPeriod => self.earlier_period = value as u32,
+            OldQuantity => self.old_quantity = value as u32,
         }
     }
 
@@ -134,7 +159,7 @@ impl Entry {
 
     fn field_in_values(&self, field: Field) -> bool {
         match field {
-            Period => true,
+            Period | EarlierPeriod => true,
             Participant => self.participant <= LAST_PARTICIPANT,
             Side => self.side <= 1,
             Tier => match self.side {
@@ -142,6 +167,7 @@ impl Entry {
                 _ => (1..=5).contains(&self.tier),
             },
             Quantity => self.quantity <= MOST_QUANTITY,
+            OldQuantity => self.old_quantity <= MOST_QUANTITY,
             Price => self.price <= MOST_PRICE,
             Cents => (1..=MOST_CENTS).contains(&self.cents),
         }

@@ -11,8 +11,10 @@ use crate::program;
 use crate::reach::Reach;
 use crate::refusals::NUMBERS;
 use crate::trials::{self, TRIALS, TRIALS_OF_ROUNDS};
-use crate::trials_of_groups;
+use crate::trials_of_groups::{self, Named};
 use crate::trials_of_purses;
+use crate::trials_of_washups;
+use crate::washups::Washups;
 
 /// Differences printed in full; the others are only counted.
 const SHOWN: u64 = 10;
@@ -41,6 +43,8 @@ struct Totals {
     tried_halves: Halves,
     listed_draws: Draws,
     tried_draws: Draws,
+    listed_washups: Washups,
+    tried_washups: Washups,
 }
 
 fn add(to: &mut [u64], from: &[u64]) {
@@ -85,6 +89,7 @@ impl Totals {
                 add(&mut self.listed, &count.answers);
                 self.listed_halves.add(&count.halves);
                 self.listed_draws.add(&count.draws);
+                self.listed_washups.add(&count.washups);
             }
         }
     }
@@ -104,6 +109,7 @@ impl Totals {
                 self.reach.add(&count.seen.reach);
                 self.tried_halves.add(&count.seen.halves);
                 self.tried_draws.add(&count.seen.draws);
+                self.tried_washups.add(&count.seen.washups);
             }
         }
     }
@@ -120,6 +126,8 @@ impl Totals {
             && self.tried_halves.covered()
             && self.listed_draws.covered()
             && self.tried_draws.covered()
+            && self.listed_washups.covered()
+            && self.tried_washups.covered()
             && self.listed.iter().enumerate().all(|(number, &count)| number == 5 || count > 0);
         if !enough {
             println!("too little was compared");
@@ -138,6 +146,8 @@ impl Totals {
         self.tried_halves.print("trials");
         self.listed_draws.print("listings");
         self.tried_draws.print("trials");
+        self.listed_washups.print("listings");
+        self.tried_washups.print("trials");
         println!(
             "months settled with arrears: {}, months that left: {}",
             self.with_arrears, self.left
@@ -169,10 +179,20 @@ fn compare_cases_of_halves(totals: &mut Totals, listing: &str, trial: &str) {
     }
 }
 
-fn compare_cases_of_purses(totals: &mut Totals, listing: &str) {
+/// The cases by hand as feeds; as trials they are among those of their request.
+fn compare_cases_by_hand(totals: &mut Totals, listing: &str) {
     for case in trials_of_purses::every_case() {
         totals.feed(listing, &format!("feed of purses, {}", case.name), &case.feed());
     }
+    for case in trials_of_washups::every_case() {
+        totals.feed(listing, &format!("feed of washups, {}", case.name), &case.feed());
+    }
+}
+
+/// The trials of books in groups, of purses and of washups.
+fn trials_of_requests() -> impl Iterator<Item = Named> {
+    let of_groups = trials_of_groups::every_trial();
+    of_groups.chain(trials_of_purses::every_trial()).chain(trials_of_washups::every_trial())
 }
 
 fn compare_trials(totals: &mut Totals, program: &str) {
@@ -192,7 +212,7 @@ fn compare_trials(totals: &mut Totals, program: &str) {
             &trials::trial_of_rounds(seed),
         );
     }
-    for (name, calls) in trials_of_groups::every_trial().chain(trials_of_purses::every_trial()) {
+    for (name, calls) in trials_of_requests() {
         totals.trial(program, &name, &calls);
     }
 }
@@ -203,7 +223,7 @@ pub fn compare(listing: &str, trial: &str) -> bool {
     compare_feeds(&mut totals, listing);
     compare_trials(&mut totals, trial);
     compare_cases_of_halves(&mut totals, listing, trial);
-    compare_cases_of_purses(&mut totals, listing);
+    compare_cases_by_hand(&mut totals, listing);
     let covered = totals.differences > 0 || totals.covered();
     totals.print();
     let handed_over = handover(listing);
@@ -231,16 +251,17 @@ mod tests {
         };
         // No feed can lend too few payout words.
         totals.listed[5] = 0;
-        let of_groups = trials_of_groups::every_trial().chain(trials_of_purses::every_trial());
-        let of_groups = of_groups.map(|(_, calls)| calls);
-        for calls in of_groups.chain(cases_of_halves::cases().iter().map(|case| case.trial())) {
+        let of_requests = trials_of_requests().map(|(_, calls)| calls);
+        for calls in of_requests.chain(cases_of_halves::cases().iter().map(|case| case.trial())) {
             let seen = trial::lines_by(Book::make, &calls).1;
             totals.reach.add(&seen.reach);
             totals.tried_halves.add(&seen.halves);
             totals.tried_draws.add(&seen.draws);
+            totals.tried_washups.add(&seen.washups);
         }
         totals.listed_halves = totals.tried_halves.clone();
         totals.listed_draws = totals.tried_draws.clone();
+        totals.listed_washups = totals.tried_washups.clone();
         totals
     }
 
@@ -257,13 +278,18 @@ mod tests {
         assert!(without(|less| less.months -= 1));
         assert!(without(|less| less.calls -= 1));
         assert!(without(|less| less.listed[15] = 0));
+        assert!(without(|less| less.listed[16] = 0));
+        assert!(without(|less| less.tried[16] = 0));
         assert!(without(|less| less.tried[5] = 0));
         assert!(without(|less| less.read[1] = 0));
-        assert!(without(|less| less.written[usize::from(LAST_KIND)] = 0));
+        assert!(without(|less| less.read[8] = 0));
+        assert!(without(|less| less.written[8] = 0));
         assert!(without(|less| less.reach = Reach::default()));
         assert!(without(|less| less.listed_halves.down_to_bound[1] = 0));
         assert!(without(|less| less.tried_halves.up_past_bound[0] = 0));
         assert!(without(|less| less.listed_draws.counts[0] = 0));
         assert!(without(|less| less.tried_draws.counts[20] = 0));
+        assert!(without(|less| less.listed_washups.counts[0][1] = 0));
+        assert!(without(|less| less.tried_washups.counts[30][0] = 0));
     }
 }

@@ -11,6 +11,7 @@ use crate::trial;
 use crate::trials;
 use crate::trials_of_groups::{self, Named};
 use crate::trials_of_purses;
+use crate::trials_of_washups;
 
 /// Changes the lines of an output; false if there is nothing it could damage.
 type Change = fn(&mut Vec<String>) -> bool;
@@ -151,6 +152,7 @@ fn chosen_feeds() -> Vec<(String, Vec<u8>)> {
     let mut chosen = vec![
         ("month A".to_string(), feeds::month_a()),
         ("purses".to_string(), example_feeds::purse().feed()),
+        ("washups".to_string(), example_feeds::washup().feed()),
     ];
     for (seed, kind) in [
         (2, "few"),
@@ -160,6 +162,8 @@ fn chosen_feeds() -> Vec<(String, Vec<u8>)> {
         (1, "twelve"),
         (1, "purses"),
         (4, "purses"),
+        (1, "washups"),
+        (2, "washups"),
     ] {
         chosen
             .push((format!("{kind} {seed}"), feeds::feed(seed, kind).expect("a kind that exists")));
@@ -171,7 +175,8 @@ fn chosen_feeds() -> Vec<(String, Vec<u8>)> {
 pub fn damage_listings(report: &mut Report) -> bool {
     let mut right_stands = true;
     let mut used = [0; OF_LISTING.len()];
-    let examples = [feeds::month_a(), example_feeds::purse().feed()];
+    let examples =
+        [feeds::month_a(), example_feeds::purse().feed(), example_feeds::washup().feed()];
     for (name, feed) in chosen_feeds() {
         let right = listing(&feed);
         right_stands &= judge_listing(&feed, &right).is_ok();
@@ -212,6 +217,7 @@ pub fn damage_trials(report: &mut Report) -> bool {
         |seed| (format!("of groups seed {seed}"), trials_of_groups::trial_of_groups(seed));
     chosen.extend((0..3).map(of_groups));
     chosen.extend(trials_of_purses::every_trial().take(3));
+    chosen.extend(trials_of_washups::every_trial().take(3));
     chosen.extend(
         pairs::pairs().into_iter().take(6).map(|pair| (format!("pair of {}", pair.of), pair.both)),
     );

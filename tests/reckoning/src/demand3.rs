@@ -3,13 +3,17 @@
 
 use crate::accounts::{check, sum, Account, Purses};
 use crate::book::{cents, tier};
-use crate::codec::{self, Entry, Field, AMOUNT, ENERGY, NOTICE, OPEN, PURSE, RECEIPT, SETTLE};
+use crate::codec::{
+    self, Entry, Field, AMOUNT, ENERGY, NOTICE, OPEN, PURSE, RECEIPT, SETTLE, WASHUP,
+};
 use crate::draws::Draws;
 use crate::halves::{Half, Halves};
 use crate::lines::{self, Line};
 use crate::making::Making;
 use crate::month;
 use crate::refusals::*;
+use crate::washup::{self, Addition};
+use crate::washups::Washups;
 use std::collections::BTreeMap;
 
 /// What a listing came to.
@@ -24,6 +28,8 @@ pub struct Count {
     pub halves: Halves,
     /// What the reckoning's own listing saw of purses.
     pub draws: Draws,
+    /// And of washups.
+    pub washups: Washups,
 }
 
 struct Ledger {
@@ -94,6 +100,11 @@ impl Ledger {
         match entry.kind {
             ENERGY | AMOUNT => {
                 account.sums.add(participant, entry.side, tier(entry), cents(entry));
+            }
+            WASHUP => {
+                if let Some(Addition { side, tier, cents }) = washup::added(entry) {
+                    account.sums.add(participant, side, tier, cents);
+                }
             }
             NOTICE => {
                 // A listing's book has groups of one and no reserves.

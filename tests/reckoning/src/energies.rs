@@ -11,6 +11,10 @@ use crate::random::Random;
 /// A quantity in kWh and a price in cents per MWh.
 pub type Energy = (u32, u32);
 
+/// Every scale.
+#[cfg(test)]
+pub const SCALES: [Scale; 4] = [Scale::Few, Scale::Hundreds, Scale::Millions, Scale::Bound];
+
 /// Some divisors of 10,000, so that both the quantity and the price have a part of it.
 const DIVISORS: [u32; 8] = [1, 8, 16, 25, 100, 625, 2_000, 10_000];
 
@@ -105,8 +109,6 @@ mod tests {
     use super::*;
     use crate::codec::Entry;
     use crate::month::energy_cents;
-
-    const SCALES: [Scale; 4] = [Scale::Few, Scale::Hundreds, Scale::Millions, Scale::Bound];
 
     fn drawn(draw: impl Fn(&mut Random) -> Energy) -> Vec<Energy> {
         let mut random = Random::new(6);

@@ -3,7 +3,7 @@
 use crate::by_hand::{month_a, pays, refused, stands, Case};
 use crate::codec::{Entry, MOST_CENTS};
 use crate::feeds;
-use crate::refusals::PURSE_PASSES_BOUND;
+use crate::refusals::{EARLIER_PERIOD_OUTSIDE, PURSE_PASSES_BOUND};
 
 /// Money paid early (02, c). Before period 7, month A, is opened, payer 0 sends 300 of the 600 and
 /// payer 2 sends 500, where 334 will be payable. At its settlement the 300 and 334 are drawn, so
@@ -27,11 +27,37 @@ pub fn purse() -> Case {
     Case { name: "the example feed", steps }
 }
 
+/// Washups (02, e) of period 30. Energy is 2,300 cents by 0 and 2,300 to 1. Up from 100 to 300 kWh at
+/// 100: 34 less 12, 22 by 0. Down from 80 to 60 at 20,000: 1,380 less 1,840, so 460 by 1, though side
+/// 1 is stated. 50 and 51 at 10 are both 1 cent. Period 5 is 25 below. Then 230 by 2 and, back, 230
+/// to 2; 482 in tier 1 make both sides 3,012. Payer 0 owes 2,322 net, and g is 2,530: retention is
+/// 2,111 for 1 and 212 for 2, payable are 2,322, 460 − 2,300 + 2,111 and 0, and claims 0, 2,111, 482.
+pub fn washup() -> Case {
+    let steps = vec![
+        stands(Entry::open(30), 0),
+        stands(Entry::energy(30, 0, 0, 100, 20_000), 0),
+        stands(Entry::energy(30, 1, 1, 100, 20_000), 0),
+        stands(Entry::washup(30, 28, 0, 0, 100, 300, 100), 0),
+        stands(Entry::washup(30, 27, 1, 1, 80, 60, 20_000), 0),
+        stands(Entry::washup(30, 29, 2, 1, 50, 51, 10), 0),
+        refused(Entry::washup(30, 5, 2, 0, 10, 20, 20_000), EARLIER_PERIOD_OUTSIDE, 0),
+        stands(Entry::washup(30, 6, 2, 0, 10, 20, 20_000), 0),
+        stands(Entry::washup(30, 6, 2, 0, 20, 10, 20_000), 0),
+        stands(Entry::amount(30, 2, 1, 1, 482), 0),
+        stands(Entry::notice(30), 0),
+        stands(Entry::receipt(30, 0, 2_322), 2_322),
+        stands(Entry::receipt(30, 1, 271), 2_593),
+        pays(Entry::settle(30), [0, 2_111, 482], 0),
+    ];
+    Case { name: "the example feed", steps }
+}
+
 /// The bytes of an example; nothing for a name that there is not.
 pub fn example(name: &str) -> Option<Vec<u8>> {
     match name {
         "month-a" => Some(feeds::month_a()),
         "purse" => Some(purse().feed()),
+        "washup" => Some(washup().feed()),
         _ => None,
     }
 }
@@ -47,13 +73,16 @@ mod tests {
         let month_a = include_bytes!("../../../feeds/month-a.feed");
         let purse = include_bytes!("../../../feeds/purse.feed");
         assert_eq!(example("month-a").unwrap(), month_a);
+        let washup = include_bytes!("../../../feeds/washup.feed");
         assert_eq!(example("purse").unwrap(), purse);
+        assert_eq!(example("washup").unwrap(), washup);
         assert_eq!(example("month-b"), None);
     }
 
     #[test]
-    fn the_example_of_purses_is_as_reckoned() {
+    fn the_examples_are_as_reckoned() {
         hold(&purse());
+        hold(&washup());
     }
 
     #[test]
@@ -64,5 +93,13 @@ mod tests {
                     11 0 301 166\npay 1 234\npay 2 67\n12 0 0 166\n13 0 0 166\n14 0 0 166\n\
                     15 0 0 166\n16 0 150 16\npay 1 150\n17 15 0 16\n";
         assert_eq!(String::from_utf8(listing(&purse().feed())).unwrap(), text);
+    }
+
+    #[test]
+    fn the_listing_of_the_example_of_washups() {
+        let text = "entry answer paid held\n1 0 0 0\n2 0 0 0\n3 0 0 0\n4 0 0 0\n5 0 0 0\n6 0 0 0\n\
+                    7 16 0 0\n8 0 0 0\n9 0 0 0\n10 0 0 0\n11 0 0 0\n12 0 0 2322\n13 0 0 2593\n\
+                    14 0 2593 0\npay 1 2111\npay 2 482\n";
+        assert_eq!(String::from_utf8(listing(&washup().feed())).unwrap(), text);
     }
 }

@@ -164,7 +164,8 @@ fn listings_that_end_early() {
     assert_eq!(text(&[3]), header);
     assert_eq!(text(&[3, 1]), format!("{header}1 1 0 0\n"));
     assert_eq!(text(&[3, 7, 1]), format!("{header}1 1 0 0\n"));
-    assert_eq!(text(&[3, 8, 1]), format!("{header}1 2 0 0\n"));
+    assert_eq!(text(&[3, 8, 1]), format!("{header}1 1 0 0\n"));
+    assert_eq!(text(&[3, 9, 1]), format!("{header}1 2 0 0\n"));
     assert_eq!(text(&[&[3], &open[..], &[0]].concat()), format!("{header}1 0 0 0\n2 2 0 0\n"));
     assert_eq!(text(&[&[65], &open[..], &open].concat()), format!("{header}1 4 0 0\n2 4 0 0\n"));
     let bad = Entry::receipt(7, 0, 0).bytes();

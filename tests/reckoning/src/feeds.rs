@@ -1,7 +1,7 @@
 //! Feeds from fixed seeds, of several kinds.
 
 use crate::aim::{Aim, Manner, Scale};
-use crate::book::Book;
+use crate::book::{Book, Make};
 use crate::codec::{Entry, LAST_KIND, MOST_CENTS};
 use crate::making::Making;
 use crate::random::Random;
@@ -18,7 +18,7 @@ const fn kind(name: &'static str, feeds: u64, entries: u64) -> Kind {
     Kind { name, feeds, entries }
 }
 
-pub const KINDS: [Kind; 15] = [
+pub const KINDS: [Kind; 16] = [
     // n of 1 to 6 and few cents.
     kind("few", 150, 600),
     // n of 2 to 6 and hundreds of cents.
@@ -49,6 +49,8 @@ pub const KINDS: [Kind; 15] = [
     kind("long", 5, 100_000),
     // n of 2 to 6 and much money for purses.
     kind("purses", 120, 600),
+    // n of 2 to 6 and many washups.
+    kind("washups", 120, 600),
 ];
 
 fn manner(name: &str, random: &mut Random, n: u64) -> Manner {
@@ -57,6 +59,7 @@ fn manner(name: &str, random: &mut Random, n: u64) -> Manner {
         "hundreds" => Scale::Hundreds,
         "millions" => Scale::Millions,
         "bound" => Scale::Bound,
+        "washups" => random.pick(&[Scale::Few, Scale::Hundreds, Scale::Bound, Scale::Bound]),
         _ => random.pick(&[Scale::Few, Scale::Few, Scale::Hundreds, Scale::Millions, Scale::Bound]),
     };
     let periods = match name {
@@ -67,15 +70,25 @@ fn manner(name: &str, random: &mut Random, n: u64) -> Manner {
     let wrong = match name {
         "wrong" => 50,
         "wide" | "long" => 3,
+        "washups" => random.pick(&[5, 15]),
         _ => random.pick(&[0, 5, 15]),
     };
-    let step = if name == "highest" { 1 << 29 } else { random.pick(&[1, 1, 4, 100]) };
+    let step = match name {
+        "highest" => 1 << 29,
+        "washups" => random.pick(&[1, 1, 1, 4, 100, 1 << 29]),
+        _ => random.pick(&[1, 1, 4, 100]),
+    };
     let purses = match name {
         "purses" => random.pick(&[10, 25]),
         "long" => 3,
         _ => random.pick(&[0, 0, 2, 8]),
     };
-    Manner { scale, wrong, periods, amounts: n + 3, step, purses }
+    let washups = match name {
+        "washups" => random.pick(&[25, 50]),
+        "long" | "highest" => 10,
+        _ => random.pick(&[0, 0, 5, 15]),
+    };
+    Manner { scale, wrong, periods, amounts: n + 3, step, purses, washups }
 }
 
 fn participants(name: &str, seed: u64, random: &mut Random) -> u64 {
@@ -86,7 +99,7 @@ fn participants(name: &str, seed: u64, random: &mut Random) -> u64 {
         "rounds" => random.between(4, 64),
         "long" => [3, 64, 2, 5, 6][(seed % 5) as usize],
         "refused-n" => [0, 65, 255, random.between(66, 254)][(seed % 4) as usize],
-        "twelve" | "purses" => random.between(2, 6),
+        "twelve" | "purses" | "washups" => random.between(2, 6),
         "cut" | "wrong" => random.pick(&[1, 2, 3, 4, 5, 6, 63, 64]),
         _ => random.between(1, 6),
     }
@@ -94,6 +107,11 @@ fn participants(name: &str, seed: u64, random: &mut Random) -> u64 {
 
 /// The feed of a kind for a seed; nothing for a kind that does not exist.
 pub fn feed(seed: u64, name: &str) -> Option<Vec<u8>> {
+    feed_by(Book::make, seed, name)
+}
+
+/// The same, aimed by a book that is made so.
+pub fn feed_by(make: Make, seed: u64, name: &str) -> Option<Vec<u8>> {
     let place = KINDS.iter().position(|kind| kind.name == name)?;
     let mut random = Random::new(seed.wrapping_mul(64).wrapping_add(place as u64));
     if name == "noise" {
@@ -104,7 +122,9 @@ pub fn feed(seed: u64, name: &str) -> Option<Vec<u8>> {
         return Some(months_of_rounds(&mut random, n, KINDS[place].entries));
     }
     let manner = manner(name, &mut random, n);
-    let mut aim = Aim::new(random, &Making::alone(n), manner);
+    let making = Making::alone(n);
+    let mut aim = Aim::new(random, &making, manner);
+    aim.book = make(&making).0;
     let mut bytes = vec![n as u8];
     for _ in 0..KINDS[place].entries {
         let entry = aim.propose();
@@ -177,6 +197,11 @@ fn bad_field(random: &mut Random) -> Entry {
         Entry::purse(64, 1),
         Entry::purse(0, 0),
         Entry::purse(0, MOST_CENTS + 1),
+        Entry::washup(2, 1, 64, 0, 1, 1, 1),
+        Entry::washup(2, 1, 0, 2, 1, 1, 1),
+        Entry::washup(2, 1, 0, 0, 100_000_001, 1, 1),
+        Entry::washup(2, 1, 0, 0, 1, 100_000_001, 1),
+        Entry::washup(2, 1, 0, 0, 1, 1, 10_000_001),
     ])
 }
 

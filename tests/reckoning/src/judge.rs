@@ -37,9 +37,10 @@ pub fn difference_after(lines: u64, reckoned: &[u8], found: &[u8]) -> Option<Str
 /// What the listing found for a feed came to, or how it differs.
 pub fn judge_listing(feed: &[u8], found: &[u8]) -> Result<Count, String> {
     let by_demand_3 = demand3::check_listing(feed, found);
-    let (reckoned, draws) = listing::lines_by(Book::make, feed);
+    let (reckoned, seen) = listing::lines_by(Book::make, feed);
+    let listing::Seen { draws, washups } = seen;
     match (first_difference(&reckoned, found), by_demand_3) {
-        (None, result) => result.map(|count| Count { draws, ..count }),
+        (None, result) => result.map(|count| Count { draws, washups, ..count }),
         (Some(difference), Ok(_)) => Err(difference),
         (Some(difference), Err(what)) => Err(format!("{difference}; {what}")),
     }

@@ -1,4 +1,4 @@
-//! A reckoning of 01, with requests a to d of 02, on u128, written from the rules alone. It
+//! A reckoning of 01, with requests a to e of 02, on u128, written from the rules alone. It
 //! shares no code and no definitions with the clearing book that is tested by it.
 
 mod accounts;
@@ -6,9 +6,11 @@ pub mod aim;
 pub mod book;
 pub mod by_hand;
 pub mod calls;
+pub mod cases_of_full_sides;
 pub mod cases_of_halves;
 pub mod cases_of_older_arrears;
 pub mod cases_of_purses;
+pub mod cases_of_washups;
 pub mod codec;
 pub mod compare;
 pub mod damage;
@@ -34,13 +36,16 @@ pub mod months;
 pub mod pairs;
 mod pairs_of_bytes;
 mod pairs_of_purses;
+mod pairs_of_washups;
 pub mod period;
 pub mod program;
 pub mod purse;
+pub mod quantities;
 pub mod random;
 pub mod reach;
 pub mod refusals;
 pub mod retention;
+mod revisions;
 pub mod rounds;
 pub mod selftest;
 pub mod soak;
@@ -48,12 +53,18 @@ pub mod trial;
 pub mod trials;
 pub mod trials_of_groups;
 pub mod trials_of_purses;
+pub mod trials_of_washups;
 mod tries;
 pub mod versions;
 pub mod versions_of_draws;
+pub mod versions_of_earlier_periods;
 pub mod versions_of_halves;
 pub mod versions_of_purses;
+pub mod versions_of_washups;
+pub mod washup;
+pub mod washups;
 pub mod watch_of_purses;
+pub mod watch_of_washups;
 pub mod ways;
 mod wrong;
 
@@ -67,6 +78,8 @@ mod examples_of_groups;
 mod examples_of_halves;
 #[cfg(test)]
 mod examples_of_purses;
+#[cfg(test)]
+mod examples_of_washups;
 #[cfg(test)]
 mod tests_of_book;
 #[cfg(test)]

@@ -5,7 +5,9 @@ use crate::codec::{self, Entry, LONGEST_ENTRY};
 use crate::draws::Draws;
 use crate::making::Making;
 use crate::refusals::ACCEPTED;
-use crate::watch_of_purses::Watch;
+use crate::washups::Washups;
+use crate::watch_of_purses;
+use crate::watch_of_washups;
 use std::io::{self, Read, Write};
 
 const BLOCK: usize = 1 << 16;
@@ -83,7 +85,21 @@ pub fn list(input: impl Read, out: &mut impl Write) -> io::Result<()> {
     list_by(Book::make, input, out, None)
 }
 
-/// Prints the listing of a feed where books are made so, and counts what is seen of purses, if asked.
+/// What was seen in a listing.
+#[derive(Clone, Debug, Default)]
+pub struct Seen {
+    pub draws: Draws,
+    pub washups: Washups,
+}
+
+/// Watches the entries of a listing.
+#[derive(Default)]
+struct Watch {
+    purses: watch_of_purses::Watch,
+    washups: watch_of_washups::Watch,
+}
+
+/// Prints the listing of a feed where books are made so, and counts what is seen, if asked.
 fn list_by(
     make: Make,
     input: impl Read,
@@ -105,11 +121,13 @@ fn list_by(
         };
         let mut words = vec![0; book.n];
         if let Some(watch) = &mut watch {
-            watch.before(&book, &entry);
+            watch.purses.before(&book, &entry);
+            watch.washups.before(&book, &entry);
         }
         let answer = book.apply(&entry, &mut words).number;
         if let Some(watch) = &mut watch {
-            watch.after(answer);
+            watch.purses.after(answer);
+            watch.washups.after(answer);
         }
         let payouts = if answer == ACCEPTED { &words[..] } else { &[] };
         print_entry(out, number, answer, payouts, book.held())?;
@@ -117,11 +135,11 @@ fn list_by(
     Ok(())
 }
 
-/// The listing of a feed that is in memory, where books are made so, and what was seen of purses.
-pub fn lines_by(make: Make, feed: &[u8]) -> (Vec<u8>, Draws) {
+/// The listing of a feed that is in memory, where books are made so, and what was seen.
+pub fn lines_by(make: Make, feed: &[u8]) -> (Vec<u8>, Seen) {
     let (mut out, mut watch) = (Vec::new(), Watch::default());
     list_by(make, feed, &mut out, Some(&mut watch)).expect("memory takes every byte");
-    (out, watch.draws)
+    (out, Seen { draws: watch.purses.draws, washups: watch.washups.washups })
 }
 
 /// The listing of a feed that is in memory.

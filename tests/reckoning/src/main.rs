@@ -11,7 +11,7 @@ const USES: &str = "uses:
   reckoning listing < FEED
   reckoning trial < CALLS
   reckoning feed SEED KIND > FEED
-  reckoning example month-a|purse > FEED
+  reckoning example month-a|purse|washup > FEED
   reckoning pairs
   reckoning soak --listing PATH --n N --entries COUNT --months COUNT
   reckoning malformed --listing PATH --feeds COUNT

@@ -34,7 +34,7 @@ impl Maker {
         self.bytes.extend(calls::apply(&entry, words));
     }
 
-    fn is_before_notice(&self, number: u32) -> bool {
+    pub fn is_before_notice(&self, number: u32) -> bool {
         let period = self.aim.book.periods.get(&number);
         period.is_some_and(|period| matches!(period.stage, Stage::BeforeNotice))
     }
@@ -93,9 +93,13 @@ impl Maker {
 
     /// A whole month, from its opening to late receipts.
     pub fn month(&mut self) {
-        let Some(number) = self.opened() else {
-            return;
-        };
+        if let Some(number) = self.opened() {
+            self.rest_of_month(number);
+        }
+    }
+
+    /// Entries of an opened period, its notice, receipts, settlement and late receipts.
+    pub fn rest_of_month(&mut self, number: u32) {
         self.notice(number);
         self.early_money(2);
         let all: Vec<usize> = (0..self.aim.book.n).collect();

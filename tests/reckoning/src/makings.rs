@@ -129,6 +129,8 @@ fn tries() -> Vec<u8> {
         (Entry::purse(64, 0), 64),
         (Entry::purse(63, 1), 64),
         (Entry::purse(0, 5), 64),
+        (Entry::washup(9, 9, 63, 0, 1, 2, 3), 64),
+        (Entry::washup(9, 8, 64, 2, 1, 2, 3), 64),
     ];
     let mut bytes: Vec<u8> =
         wrong.iter().flat_map(|(entry, words)| calls::apply(entry, *words)).collect();

@@ -11,30 +11,32 @@
 //!   no kind is tested for both; 3 does not hold for kinds 1, 4 and 6.
 //! - 8 with 10 and 11: a period not in the book has no totals.
 //!
-//! Those of reading and writing, and those of purse entries, have files of their own.
+//! Those of reading and writing, of purse entries and of washups have files of their own.
 
 use crate::calls;
 use crate::codec::{Entry, MOST_CENTS};
 use crate::makings;
 use crate::pairs_of_bytes;
 use crate::pairs_of_purses;
+use crate::pairs_of_washups;
 
 /// The pairs covered: an earlier refusal, and each later one that it is put with,
 /// some of them for several kinds of entry.
-pub const COVERED: [(u8, &[u8]); 11] = [
+pub const COVERED: [(u8, &[u8]); 12] = [
     // Reading.
     (2, &[1]),
     (1, &[3]),
     // Writing.
     (3, &[5]),
     // The book; 4 with 3 also where it is made.
-    (4, &[3, 5, 6, 8, 12]),
-    (5, &[3, 6, 7, 8, 9, 10, 11, 12, 13, 14, 15]),
-    (3, &[8, 9, 11, 12, 13, 14, 15]),
+    (4, &[3, 5, 6, 8, 12, 16]),
+    (5, &[3, 6, 7, 8, 9, 10, 11, 12, 13, 14, 15, 16]),
+    (3, &[8, 9, 11, 12, 13, 14, 15, 16]),
     (6, &[7]),
-    (8, &[9, 12, 13, 14]),
-    (12, &[9, 11, 13]),
-    (9, &[11, 13, 14]),
+    (8, &[9, 12, 13, 14, 16]),
+    (12, &[9, 11, 13, 16]),
+    (9, &[11, 13, 14, 16]),
+    (16, &[11]),
     (14, &[13]),
 ];
 
@@ -51,17 +53,17 @@ pub struct Pair {
 pub(crate) const N: u8 = 3;
 
 /// The period in which payer 0 has arrears after settlement.
-const SETTLED: u32 = 2;
+pub(crate) const SETTLED: u32 = 2;
 /// Month A after its notice.
-const NOTICED: u32 = 3;
+pub(crate) const NOTICED: u32 = 3;
 /// Before its notice; side 0 is at its bound, side 1 has nothing.
-const BEFORE: u32 = 4;
+pub(crate) const BEFORE: u32 = 4;
 /// After its notice; both sides are at their bound.
-const FULL: u32 = 5;
+pub(crate) const FULL: u32 = 5;
 /// Settled after period SETTLED, with arrears of payer 0 too.
 const SETTLED_LATER: u32 = 6;
 /// A period that left the book.
-const GONE: u32 = 1;
+pub(crate) const GONE: u32 = 1;
 /// A period never opened.
 pub(crate) const NEVER: u32 = 77;
 
@@ -257,6 +259,7 @@ pub fn pairs() -> Vec<Pair> {
     }
     pairs.extend(rows_of_twelve_periods().into_iter().map(|row| pair(&twelve, row)));
     pairs.extend(pairs_of_purses::pairs(&scene));
+    pairs.extend(pairs_of_washups::pairs(&scene));
     pairs.extend(makings::pairs_of_making());
     pairs
 }

@@ -11,11 +11,15 @@ fn reading(earlier: u8, later: u8, both: &[u8], alone: &[u8]) -> Pair {
 }
 
 /// An entry with a field outside its values, and the same with the field inside.
-fn outside_and_inside() -> [(Entry, Entry); 3] {
+fn outside_and_inside() -> [(Entry, Entry); 6] {
+    let washup = |side, old, new| Entry::washup(2, 1, 0, side, old, new, 1);
     [
         (Entry::amount(1, 0, 1, 6, 1), Entry::amount(1, 0, 1, 5, 1)),
         (Entry::purse(64, 1), Entry::purse(63, 1)),
         (Entry::purse(0, 0), Entry::purse(0, 1)),
+        (washup(2, 1, 1), washup(1, 1, 1)),
+        (washup(0, 100_000_001, 1), washup(0, 100_000_000, 1)),
+        (washup(0, 1, 100_000_001), washup(0, 1, 100_000_000)),
     ]
 }
 

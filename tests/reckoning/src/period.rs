@@ -1,6 +1,6 @@
 //! A period of the book: its stage, its rows of cents, and what receipts and settlement do to it.
 
-use crate::codec::{AMOUNT, ENERGY, NOTICE, RECEIPT, SETTLE};
+use crate::codec::{AMOUNT, ENERGY, NOTICE, RECEIPT, SETTLE, WASHUP};
 use crate::month::{self, Notice, Sums};
 
 #[derive(Clone, Debug)]
@@ -54,7 +54,7 @@ impl Period {
 
     pub(crate) fn stage_takes(&self, kind: u8) -> bool {
         match self.stage {
-            Stage::BeforeNotice => matches!(kind, ENERGY | AMOUNT | NOTICE),
+            Stage::BeforeNotice => matches!(kind, ENERGY | AMOUNT | WASHUP | NOTICE),
             Stage::Noticed(_) => matches!(kind, RECEIPT | SETTLE),
             Stage::Settled { .. } => kind == RECEIPT,
         }

@@ -21,6 +21,8 @@ pub const RECEIPT_ABOVE: u8 = 13;
 pub const EARLIER_ARREARS: u8 = 14;
 /// The purse would pass 10,000,000,000,000 (02, c).
 pub const PURSE_PASSES_BOUND: u8 = 15;
+/// A washup's earlier period is not 1 to 24 below its period (02, e).
+pub const EARLIER_PERIOD_OUTSIDE: u8 = 16;
 
 /// How many numbers there are, 0 (accepted) among them.
-pub const NUMBERS: usize = 16;
+pub const NUMBERS: usize = 17;

@@ -72,6 +72,29 @@ fn each_refusal() {
     assert_eq!(refused(&mut book, Entry::open(14), 3), 7);
 }
 
+/// Side 0 of period 4 is at its bound, where 23 cents more do not fit.
+#[test]
+fn each_refusal_of_a_washup() {
+    let rows = [
+        (Entry::washup(4, 3, 1, 0, 1, 2, 20_000), 2, 5),
+        (Entry::washup(4, 3, 1, 2, 1, 2, 20_000), 3, 3),
+        (Entry::washup(5, 4, 1, 0, 1, 2, 20_000), 3, 8),
+        (Entry::washup(4, 3, 3, 0, 1, 2, 20_000), 3, 12),
+        (Entry::washup(3, 2, 1, 1, 1, 2, 20_000), 3, 9),
+        (Entry::washup(2, 1, 1, 1, 1, 2, 20_000), 3, 9),
+        (Entry::washup(4, 4, 1, 1, 1, 2, 20_000), 3, 16),
+        (Entry::washup(4, 5, 1, 1, 1, 2, 20_000), 3, 16),
+        (Entry::washup(4, u32::MAX, 1, 1, 1, 2, 20_000), 3, 16),
+        (Entry::washup(4, 4, 1, 0, 1, 2, 20_000), 3, 16),
+        (Entry::washup(4, 3, 1, 0, 1, 2, 20_000), 3, 11),
+        (Entry::washup(4, 3, 1, 1, 2, 1, 20_000), 3, 11),
+    ];
+    let mut book = scene();
+    for (entry, words, number) in rows {
+        assert_eq!(refused(&mut book, entry, words), number, "{entry:?}");
+    }
+}
+
 #[test]
 fn arrears_paid_free_the_payer() {
     let mut book = scene();
@@ -175,8 +198,14 @@ fn a_refused_book_is_that_of_refusal_4() {
         let mut book = Book::make(&making).0;
         assert_eq!(format!("{book:?}"), format!("{:?}", Book::alone(65)));
         assert_eq!(book.held(), 0);
-        let entries =
-            [Entry::open(1), Entry::receipt(1, 64, 0), Entry::settle(9), Entry::purse(0, 1)];
+        let entries = [
+            Entry::open(1),
+            Entry::receipt(1, 64, 0),
+            Entry::settle(9),
+            Entry::purse(0, 1),
+            Entry::washup(2, 1, 0, 0, 1, 2, 1),
+            Entry::washup(2, 2, 64, 0, 1, 2, 1),
+        ];
         for (entry, words) in entries.into_iter().flat_map(|entry| [(entry, 0), (entry, 64)]) {
             assert_eq!(refused(&mut book, entry, words), 4);
         }

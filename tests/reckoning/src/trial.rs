@@ -7,7 +7,9 @@ use crate::halves::{Half, Halves};
 use crate::making::Making;
 use crate::reach::{Reach, Watch};
 use crate::refusals::ACCEPTED;
+use crate::washups::Washups;
 use crate::watch_of_purses;
+use crate::watch_of_washups;
 use std::io::{self, Read, Write};
 
 /// Each payout word before a call.
@@ -16,7 +18,7 @@ const WORD_BEFORE: u64 = 9;
 const BYTE_BEFORE: u8 = 238;
 
 /// The fields of a call, in their order.
-pub const CALL_FIELDS: [Field; 7] = [
+pub const CALL_FIELDS: [Field; 9] = [
     Field::Period,
     Field::Participant,
     Field::Side,
@@ -24,6 +26,8 @@ pub const CALL_FIELDS: [Field; 7] = [
     Field::Quantity,
     Field::Price,
     Field::Cents,
+    Field::EarlierPeriod,
+    Field::OldQuantity,
 ];
 
 /// The next field of so many bytes; nothing where the input is cut.
@@ -72,6 +76,7 @@ pub struct Seen {
     /// In all books.
     pub halves: Halves,
     pub draws: Draws,
+    pub washups: Washups,
 }
 
 /// The book that calls go to, and what makes the next one.
@@ -81,6 +86,7 @@ struct Trial {
     watch: Watch,
     halves: Halves,
     purses: watch_of_purses::Watch,
+    washups: watch_of_washups::Watch,
 }
 
 fn call_read(input: &mut impl Read) -> Option<String> {
@@ -110,13 +116,15 @@ impl Trial {
     fn new(make: Make) -> Trial {
         // Before the first book is made, entries come to one without participants.
         let (watch, halves) = (Watch::default(), Halves::default());
-        Trial { book: Book::alone(0), make, watch, halves, purses: Default::default() }
+        let (purses, washups) = Default::default();
+        Trial { book: Book::alone(0), make, watch, halves, purses, washups }
     }
 
     fn made(&mut self, making: &Making) -> (String, u8) {
         let (book, answer) = (self.make)(making);
         self.book = book;
         self.purses.new_book();
+        self.washups.new_book();
         (format!("book {answer}"), answer)
     }
 
@@ -140,8 +148,10 @@ impl Trial {
         let half = before.as_ref().and_then(|period| Half::of(&entry, &period.sums));
         let purses = self.book.purses.iter().sum();
         self.purses.before(&self.book, &entry);
+        self.washups.before(&self.book, &entry);
         let answer = self.book.apply(&entry, &mut words);
         self.purses.after(answer.number);
+        self.washups.after(answer.number);
         self.halves.take(half, answer.number);
         self.watch.applied(&self.book, (before.as_ref(), purses), &entry, answer);
         let line = format!("apply {} {} {}", answer.number, answer.rounds, self.book.held());
@@ -178,7 +188,7 @@ pub fn lines_by(make: Make, calls: &[u8]) -> (Vec<u8>, Seen) {
     let (mut trial, mut out) = (Trial::new(make), Vec::new());
     trial.run(calls, &mut out).expect("memory takes every byte");
     let (reach, draws) = (trial.watch.reach, trial.purses.draws);
-    (out, Seen { reach, halves: trial.halves, draws })
+    (out, Seen { reach, halves: trial.halves, draws, washups: trial.washups.washups })
 }
 
 /// The lines for calls that are in memory.

@@ -32,6 +32,7 @@ pub(crate) fn any_manner(random: &mut Random, n: u64) -> Manner {
         amounts: n % 65 + 3,
         step: random.pick(&[1, 3]),
         purses: random.pick(&[0, 5, 15]),
+        washups: random.pick(&[0, 5, 20]),
     }
 }
 
@@ -94,7 +95,7 @@ pub fn trial_of_rounds(seed: u64) -> Vec<u8> {
 pub(crate) fn end(bytes: &mut Vec<u8>, random: &mut Random) {
     match random.below(6) {
         0 => {
-            let lost = random.between(1, 24) as usize;
+            let lost = random.between(1, 32) as usize;
             bytes.truncate(bytes.len() - lost);
         }
         1 => bytes.push(random.pick(b"\0\nCXabrw\xff")),
@@ -120,9 +121,12 @@ fn edge(field: Field, aim: &mut Aim) -> u64 {
         Field::Participant => random.pick(&[63, 64, n]),
         Field::Side => 1,
         Field::Tier => random.pick(&[0, 1, 5]),
-        Field::Quantity => random.pick(&[0, u64::from(MOST_QUANTITY)]),
+        Field::Quantity | Field::OldQuantity => random.pick(&[0, u64::from(MOST_QUANTITY)]),
         Field::Price => random.pick(&[0, u64::from(MOST_PRICE)]),
         Field::Cents => random.pick(&[0, 1, MOST_CENTS]),
+        Field::EarlierPeriod => {
+            random.pick(&[0, highest, highest.saturating_sub(24), u64::from(u32::MAX)])
+        }
     };
     let near = random.near(bound);
     random.pick(&[near, near, near, any])
@@ -165,7 +169,7 @@ fn any_write(aim: &mut Aim) -> Vec<u8> {
     let entry = any_entry(aim, 25);
     let needed = entry.bytes().len() as u64;
     let room = match aim.random.below(3) {
-        0 => aim.random.below(20),
+        0 => aim.random.below(28),
         1 => aim.random.near(needed),
         _ => needed,
     };

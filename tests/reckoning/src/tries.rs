@@ -1,20 +1,26 @@
 //! Tries wrong versions of a request on trials that are made for it; each must be told from the
 //! right one. Those that break the equation of cents in and out must be told by demand 3 too.
 
+use crate::book::{Book, Make};
+use crate::by_hand::Case;
 use crate::cases_of_halves;
 use crate::demand3;
 use crate::feeds;
 use crate::judge::first_difference;
 use crate::listing;
+use crate::pairs;
 use crate::selftest::Report;
 use crate::trial;
 use crate::trials::{self, TRIALS};
 use crate::trials_of_groups::{self, Named};
 use crate::trials_of_purses;
+use crate::trials_of_washups;
 use crate::versions::{self, Wrong};
 use crate::versions_of_draws;
+use crate::versions_of_earlier_periods;
 use crate::versions_of_halves;
 use crate::versions_of_purses;
+use crate::versions_of_washups;
 
 /// How many feeds from seeds demand 3 is put over, as wrong versions list them.
 const FEEDS: u64 = 20;
@@ -44,12 +50,24 @@ fn trials_with_purses() -> Vec<Named> {
     trials_of_purses::every_trial().chain(seeds).collect()
 }
 
-/// The feeds that demand 3 is put over: the cases of purses, and some from seeds.
-fn feeds_with_purses() -> Vec<Named> {
-    let cases = trials_of_purses::every_case().into_iter();
-    let cases = cases.map(|case| (format!("feed of purses, {}", case.name), case.feed()));
-    let feed = |seed| feeds::feed(seed, "purses").expect("a kind that exists");
-    let seeds = (0..FEEDS).map(|seed| (format!("feed purses seed {seed}"), feed(seed)));
+/// The trials that wrong versions of 02, e, are tried on, pairs of refusals among them.
+fn trials_with_washups() -> Vec<Named> {
+    let pairs = pairs::pairs().into_iter().filter(|pair| pair.of == "washup");
+    let named = |pair: pairs::Pair| {
+        let name = format!("trial pair {} with {}", pair.earlier, pair.later);
+        (name, [pair.both, pair.alone].concat())
+    };
+    let seeds = (0..TRIALS).map(|seed| (format!("trial seed {seed}"), trials::trial(seed)));
+    trials_of_washups::every_trial().chain(pairs.map(named)).chain(seeds).collect()
+}
+
+/// The feeds that demand 3 is put over: the cases of a kind of feed, and some from seeds, aimed by a
+/// book that is made so.
+fn feeds_of(kind: &str, cases: Vec<Case>, make: Make) -> Vec<Named> {
+    let cases = cases.into_iter();
+    let cases = cases.map(|case| (format!("feed of {kind}, {}", case.name), case.feed()));
+    let feed = |seed| feeds::feed_by(make, seed, kind).expect("a kind that exists");
+    let seeds = (0..FEEDS).map(|seed| (format!("feed {kind} seed {seed}"), feed(seed)));
     cases.chain(seeds).collect()
 }
 
@@ -79,17 +97,33 @@ pub fn try_all_versions() -> Report {
     let of_purses = trials_with_purses();
     let of_c = [&versions_of_draws::WRONG[..], &versions_of_purses::WRONG].concat();
     try_versions(&mut report, 'c', &of_c, &of_purses);
+    let of_e = [&versions_of_washups::WRONG[..], &versions_of_earlier_periods::WRONG].concat();
+    try_versions(&mut report, 'e', &of_e, &trials_with_washups());
     report
 }
 
 /// Puts demand 3 over the listings of each version that breaks it.
 pub fn try_demand_3() -> Report {
     let mut report = Report::default();
-    let feeds = feeds_with_purses();
-    let versions = versions_of_draws::WRONG.iter().chain(&versions_of_purses::WRONG);
-    for wrong in versions.filter(|wrong| wrong.by_demand_3) {
-        let name = format!("version of c, by demand 3: {}", wrong.name);
-        report.take(&name, told_by_demand_3(&feeds, wrong));
-    }
+    let of_c = [&versions_of_draws::WRONG[..], &versions_of_purses::WRONG].concat();
+    let with_purses = feeds_of("purses", trials_of_purses::every_case(), Book::make);
+    put_demand_3(&mut report, 'c', &of_c, |_| with_purses.clone());
+    let of_e = [&versions_of_washups::WRONG[..], &versions_of_earlier_periods::WRONG].concat();
+    // Aimed by the wrong version, whose sides come to be equal, so that its months settle.
+    put_demand_3(&mut report, 'e', &of_e, |wrong| {
+        feeds_of("washups", trials_of_washups::every_case(), wrong.make)
+    });
     report
+}
+
+fn put_demand_3(
+    report: &mut Report,
+    letter: char,
+    versions: &[Wrong],
+    feeds: impl Fn(&Wrong) -> Vec<Named>,
+) {
+    for wrong in versions.iter().filter(|wrong| wrong.by_demand_3) {
+        let name = format!("version of {letter}, by demand 3: {}", wrong.name);
+        report.take(&name, told_by_demand_3(&feeds(wrong), wrong));
+    }
 }

@@ -252,7 +252,7 @@ mod tests {
                 (0..count).for_each(|_| expected.see(sight));
             }
             assert_eq!(draws_of(case), expected, "{name}");
-            assert_eq!(listing::lines_by(Book::make, &case.feed()).1, expected, "{name}");
+            assert_eq!(listing::lines_by(Book::make, &case.feed()).1.draws, expected, "{name}");
         }
     }
 
@@ -280,7 +280,7 @@ mod tests {
     fn feeds_from_seeds_cover_every_count() {
         let mut draws = Draws::default();
         for feed in (0..120).filter_map(|seed| feeds::feed(seed, "purses")) {
-            draws.add(&listing::lines_by(Book::make, &feed).1);
+            draws.add(&listing::lines_by(Book::make, &feed).1.draws);
         }
         assert!(draws.covered(), "{draws:?}");
     }

@@ -4,9 +4,12 @@
 use crate::book::{cents, Answer, Book, Cents};
 use crate::codec::Entry;
 use crate::retention::{retention, Retention};
+use crate::washup::{self, Addition};
 
 /// Gives what each payer has drawn when a noticed period settles.
 pub type Drawn = fn(&Book, u32) -> Vec<u128>;
+/// Gives what a washup adds, if anything.
+pub type Washed = fn(&Entry) -> Option<Addition>;
 /// Applies an entry; an accepted one sets the first n payout words.
 pub type Applied = fn(&mut Book, &Entry, &mut [u64]) -> Answer;
 
@@ -18,6 +21,11 @@ pub struct Ways {
     pub added: Cents,
     pub tested: Cents,
     pub drawn: Drawn,
+    /// Whether the earlier period of a washup stands (else 16).
+    pub earlier_stands: fn(&Book, &Entry) -> bool,
+    /// What a washup adds, and what 11 tests.
+    pub washup_added: Washed,
+    pub washup_tested: Washed,
     /// Gives the cents held in the book.
     pub held: fn(&Book) -> u128,
     pub applied: Applied,
@@ -29,6 +37,9 @@ pub const RIGHT: Ways = Ways {
     added: cents,
     tested: cents,
     drawn: Book::drawn,
+    earlier_stands: |_, entry| washup::earlier_stands(entry),
+    washup_added: washup::added,
+    washup_tested: washup::added,
     held: Book::all_held,
     applied: Book::applied,
 };

@@ -1,7 +1,6 @@
 //! Proposes entries that are meant to be refused, for a book as it stands.
 
 use crate::aim::Aim;
-use crate::book::MOST_TOTAL;
 use crate::codec::{Entry, LAST_PARTICIPANT, MOST_CENTS};
 use crate::period::Stage;
 
@@ -13,6 +12,9 @@ impl Aim {
         }
         if self.book.periods.is_empty() {
             return self.wrong_opening_or_period();
+        }
+        if self.manner.washups > 0 && self.random.chance(1, 6) {
+            return self.wrong_washup();
         }
         match self.random.below(10) {
             0 | 1 => self.wrong_opening_or_period(),
@@ -42,14 +44,23 @@ impl Aim {
     pub fn any_kind_on(&mut self, period: u32) -> Entry {
         let participant = self.any_participant();
         let cents = self.any_cents(MOST_CENTS);
-        match self.random.below(6) {
+        match self.random.below(7) {
             0 => Entry::energy(period, participant, 1, 100, 100),
             1 => Entry::amount(period, participant, 0, 0, cents),
             2 => Entry::amount(period, participant, 1, 3, cents),
             3 => Entry::notice(period),
             4 => Entry::receipt(period, participant, cents),
+            5 => self.some_washup(period, participant),
             _ => Entry::settle(period),
         }
+    }
+
+    /// A washup, up or down, whose earlier period stands or is the period itself.
+    fn some_washup(&mut self, period: u32, participant: u8) -> Entry {
+        let earlier = self.earlier_period(period);
+        let earlier = self.random.pick(&[earlier, earlier, period]);
+        let (old, new) = self.random.pick(&[(100, 300), (300, 100)]);
+        Entry::washup(period, earlier, participant, self.random.below(2) as u8, old, new, 100)
     }
 
     /// A kind that the stage of a period does not take.
@@ -60,11 +71,12 @@ impl Aim {
         let receipt = Entry::receipt(number, participant, cents);
         let energy = Entry::energy(number, participant, 0, 300, 100);
         let amount = Entry::amount(number, participant, 1, 5, cents);
+        let washup = self.some_washup(number, participant);
         let (notice, settle) = (Entry::notice(number), Entry::settle(number));
         match self.book.periods[&number].stage {
             Stage::BeforeNotice => self.random.pick(&[receipt, settle]),
-            Stage::Noticed(_) => self.random.pick(&[energy, amount, notice]),
-            Stage::Settled { .. } => self.random.pick(&[energy, amount, notice, settle]),
+            Stage::Noticed(_) => self.random.pick(&[energy, amount, washup, notice]),
+            Stage::Settled { .. } => self.random.pick(&[energy, amount, washup, notice, settle]),
         }
     }
 
@@ -96,7 +108,7 @@ impl Aim {
         let number = self.any_period();
         let side = self.random.below(2) as u8;
         let participant = self.any_participant();
-        let room = (MOST_TOTAL - self.book.periods[&number].sums.total(side)) as u64;
+        let room = self.room_on(number, side);
         let cents = self.random.near(room);
         if cents <= 11_000 && self.random.chance(1, 2) {
             // The lowest price that comes to so many cents, or to the half below them, for 1 kWh.

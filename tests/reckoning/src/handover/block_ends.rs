@@ -14,7 +14,7 @@ use std::thread;
 const SEED: u64 = 3;
 const MOST_BYTES: usize = 4 * BLOCK + BLOCK / 2;
 /// How far about a block's end feeds are cut; an entry is shorter.
-const ABOUT: usize = 20;
+const ABOUT: usize = 28;
 
 /// A feed and the places at which it is cut.
 pub struct Cuts {

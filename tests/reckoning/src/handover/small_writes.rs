@@ -28,12 +28,13 @@ fn write_ends(length: usize) -> Vec<usize> {
     ends
 }
 
-/// Whether a feed had refused entries, settlements, some of them with draws on purses, and late
-/// money.
+/// Whether a feed had refused entries, washups, settlements, some of them with draws on purses, and
+/// late money.
 fn various(count: &Count) -> bool {
     let refused: u64 = count.answers[usize::from(ACCEPTED) + 1..].iter().sum();
-    let drawn = count.draws.drawn();
-    refused > 0 && count.settled_months > 0 && drawn > 0 && count.late_receipts > 0
+    let (drawn, washups) = (count.draws.drawn(), count.washups.added());
+    let various = refused > 0 && washups > 0 && drawn > 0;
+    various && count.settled_months > 0 && count.late_receipts > 0
 }
 
 /// Holds a program to the reckoning over a feed in small writes.
@@ -50,8 +51,9 @@ pub fn small_writes(run: &impl Run) -> bool {
     let enough = written >= LEAST_WRITES && entries >= LEAST_ENTRIES && various(&count);
     let (months, late) = (count.settled_months, count.late_receipts);
     let covered = format!(
-        "{written} writes, {entries} entries, {months} settled months, {} draws on purses, {late} \
-         late receipts",
+        "{written} writes, {entries} entries, {} washups that added cents, {months} settled \
+         months, {} draws on purses, {late} late receipts",
+        count.washups.added(),
         count.draws.drawn()
     );
     runs.stands(&covered, enough)

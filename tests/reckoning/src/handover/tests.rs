@@ -9,7 +9,7 @@ use super::Runs;
 /// One place in so many about the block ends is taken, since here the time counts.
 const STEP: usize = 5;
 /// One place about each block's end.
-const FEW: usize = 41;
+const FEW: usize = 57;
 
 #[test]
 fn a_right_listing_stands() {
@@ -38,7 +38,7 @@ fn a_listing_that_ends_at_a_short_read_is_told() {
 #[test]
 fn a_byte_lost_at_a_block_end_is_told() {
     assert!(!block_ends(&Cuts::some(STEP), &stand_in(Wrong::SkipsAtBlockEnd)));
-    for part in [0, 1, 14, 15] {
+    for part in [0, 1, 14, 15, 21, 22] {
         let wrong = stand_in(Wrong::SkipsAfterPart(part));
         assert!(!block_ends(&Cuts::some(FEW), &wrong), "{part}");
         // Small writes never fill a block.

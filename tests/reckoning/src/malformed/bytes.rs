@@ -31,6 +31,8 @@ pub fn acts() -> Vec<Entry> {
         Entry::energy(4, 1, 1, 5_000, 9_000),
         Entry::amount(4, 2, 0, 0, 70_000),
         Entry::amount(4, 1, 1, 3, 70_000),
+        Entry::washup(4, 3, 0, 0, 1_000, 5_000, 9_000),
+        Entry::washup(4, 0, 1, 0, 5_000, 1_000, 9_000),
         Entry::notice(4),
         Entry::receipt(3, 2, 300),
         Entry::receipt(2, 0, 100),
@@ -79,6 +81,7 @@ pub fn every_cut() -> Vec<Vec<u8>> {
             long.extend(Entry::energy(4, 0, 0, 5_000, 9_000).bytes());
             long.extend(Entry::receipt(3, 2, 1).bytes());
             long.extend(Entry::purse(0, 1).bytes());
+            long.extend(Entry::washup(4, 3, 0, 0, 1_000, 5_000, 9_000).bytes());
         }
         let lengths = BLOCK - ABOUT..=BLOCK + ABOUT;
         feeds.extend(lengths.map(|length| long[..length].to_vec()));

@@ -127,8 +127,9 @@ struct Feeds {
 }
 
 fn judge_malformed(feeds: &Feeds, run: &impl Run) -> bool {
-    // Values about a bound make a purse pass its own.
-    let seen = [ACCEPTED, TOO_FEW_BYTES, KIND_UNKNOWN, FIELD_OUTSIDE, PURSE_PASSES_BOUND];
+    // Values about a bound make a purse pass its own, and an earlier period lie outside.
+    let of_bytes = [ACCEPTED, TOO_FEW_BYTES, KIND_UNKNOWN, FIELD_OUTSIDE];
+    let seen = [&of_bytes[..], &[PURSE_PASSES_BOUND, EARLIER_PERIOD_OUTSIDE]].concat();
     let every_byte = judge_listed("every byte", &feeds.every_byte, &seen, run);
     let cuts = judge_listed("every cut", &feeds.every_cut, &[ACCEPTED, TOO_FEW_BYTES], run);
     let random = judge_all(feeds.random, |number| noise::feed(number as u64), run);

@@ -44,11 +44,11 @@ fn small(random: &mut Random, n: u8) -> Vec<u8> {
 /// A value that a field may have or one about a bound of it.
 fn value(random: &mut Random, field: Field) -> u64 {
     let bound = match field {
-        Field::Period => random.pick(&[0, 1, 2, 3, u64::from(u32::MAX)]),
+        Field::Period | Field::EarlierPeriod => random.pick(&[0, 1, 2, 3, u64::from(u32::MAX)]),
         Field::Participant => random.pick(&[0, 1, 2, 63, 64]),
         Field::Side => random.below(2),
         Field::Tier => random.pick(&[0, 0, 1, 5]),
-        Field::Quantity => random.pick(&[0, 5_000, u64::from(MOST_QUANTITY)]),
+        Field::Quantity | Field::OldQuantity => random.pick(&[0, 5_000, u64::from(MOST_QUANTITY)]),
         Field::Price => random.pick(&[0, 9_000, u64::from(MOST_PRICE)]),
         Field::Cents => random.pick(&[0, 1, 500, MOST_CENTS]),
     };
@@ -78,7 +78,7 @@ fn changed(random: &mut Random, n: u8) -> Vec<u8> {
     let standing = random.pick(&[1, 2, 3, 4, 5, 6, 64]);
     let scale = random.pick(&[Scale::Few, Scale::Hundreds, Scale::Millions, Scale::Bound]);
     let periods = random.pick(&[1, 2, 12]);
-    let manner = Manner { scale, wrong: 5, periods, amounts: 4, step: 2, purses: 8 };
+    let manner = Manner { scale, wrong: 5, periods, amounts: 4, step: 2, purses: 8, washups: 10 };
     let mut aim = Aim::new(random.clone(), &Making::alone(standing), manner);
     let mut feed = vec![if random.chance(1, 4) { n } else { standing as u8 }];
     for _ in 0..random.between(1, 60) {

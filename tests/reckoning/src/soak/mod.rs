@@ -1,6 +1,7 @@
 //! A long feed, listed by a program and by the reckoning at the same time.
 
 mod early_money;
+mod filling;
 mod memory;
 mod rotation;
 mod streams;
@@ -12,7 +13,8 @@ pub use rotation::Plan;
 use crate::book::{MOST_PARTICIPANTS, MOST_PERIODS};
 use crate::compare::print_answers;
 use crate::draws::Sight;
-use crate::refusals::{NOT_ABOVE_HIGHEST, NO_PARTICIPANT, PURSE_PASSES_BOUND};
+use crate::refusals::{EARLIER_PERIOD_OUTSIDE, NOT_ABOVE_HIGHEST, NO_PARTICIPANT};
+use crate::washups;
 use memory::Memory;
 use rotation::{Reach, Rotation};
 use std::process::{Child, Command, Stdio};
@@ -26,6 +28,8 @@ const SEED: u64 = 400;
 /// Not required of purses: the periods settle in order, so that none that settles has a later one
 /// with arrears; and a payer mostly pays all of a month by receipts, or nothing.
 const NOT_REQUIRED: [Sight; 2] = [Sight::LaterArrears, Sight::BesideReceipts];
+/// Not required of washups: a soak's months do not come to the last period numbers.
+const WASHUPS_NOT_REQUIRED: [washups::Sight; 1] = [washups::Sight::LastNumbers];
 /// A program that prints nothing for so long is ended.
 const LONGEST: Duration = Duration::from_secs(60);
 
@@ -106,7 +110,7 @@ fn covered(plan: &Plan, reach: &Reach) -> bool {
         let cannot_be = number == NO_PARTICIPANT && u64::from(plan.n) == MOST_PARTICIPANTS;
         cannot_be || count.answers[usize::from(number)] > 0
     };
-    let enough = (NOT_ABOVE_HIGHEST..=PURSE_PASSES_BOUND).all(refused)
+    let enough = (NOT_ABOVE_HIGHEST..=EARLIER_PERIOD_OUTSIDE).all(refused)
         && reach.months_opened == plan.months
         && reach.most_periods == MOST_PERIODS
         && count.settled_months > count.months_with_arrears
@@ -114,7 +118,8 @@ fn covered(plan: &Plan, reach: &Reach) -> bool {
         && count.months_left > 0
         && count.late_receipts > 0
         && count.halves.both_ways()
-        && reach.purses.draws.covered_but_for(&NOT_REQUIRED);
+        && reach.purses.draws.covered_but_for(&NOT_REQUIRED)
+        && reach.washups.washups.covered_but_for(&WASHUPS_NOT_REQUIRED);
     if !enough {
         println!("too little was compared");
     }
@@ -136,6 +141,7 @@ fn print_reach(reach: &Reach) {
     println!("late receipts: {}", count.late_receipts);
     count.halves.print("the feed");
     reach.purses.draws.print("the feed");
+    reach.washups.washups.print("the feed");
 }
 
 fn judge_memory(memory: &Memory) -> bool {

@@ -1,6 +1,7 @@
 //! A feed over many months of one book, made entry by entry. Each period is
 //! opened, noticed, settled and paid off by its age, so that twelve are in rotation.
 
+use super::filling;
 use crate::aim::{Aim, Manner, Scale};
 use crate::book::MOST_PERIODS;
 use crate::codec::{Entry, Field, OPEN, RECEIPT, SETTLE};
@@ -10,13 +11,12 @@ use crate::making::Making;
 use crate::period::Stage;
 use crate::random::Random;
 use crate::refusals::ACCEPTED;
-use crate::watch_of_purses::Watch;
+use crate::watch_of_purses;
+use crate::watch_of_washups;
 use std::collections::BTreeMap;
 
-/// Ages of a period in hundredths of a month. Its sides are filled to their
-/// bound, if at all, right before its notice, since nothing goes in after that.
-const FULL_FROM: u64 = 298;
-const NOTICE_DUE: u64 = 300;
+/// Ages of a period in hundredths of a month.
+pub(super) const NOTICE_DUE: u64 = 300;
 const SETTLE_DUE: u64 = 400;
 /// The last arrears are paid right before the twelfth month after the opening.
 const LEAVING_DUE: u64 = 1_190;
@@ -46,7 +46,7 @@ pub struct Plan {
 
 impl Plan {
     /// From one opening to the next.
-    fn entries_of_a_month(&self) -> u64 {
+    pub(super) fn entries_of_a_month(&self) -> u64 {
         (self.entries / self.months.max(1)).max(1)
     }
 }
@@ -58,7 +58,8 @@ pub struct Reach {
     pub months_opened: u64,
     pub most_periods: usize,
     pub count: Count,
-    pub purses: Watch,
+    pub purses: watch_of_purses::Watch,
+    pub washups: watch_of_washups::Watch,
 }
 
 pub struct Rotation {
@@ -66,7 +67,7 @@ pub struct Rotation {
     pub reach: Reach,
     pub(super) aim: Aim,
     /// How many entries there were when each period in the book was opened.
-    opened_after: BTreeMap<u32, u64>,
+    pub(super) opened_after: BTreeMap<u32, u64>,
 }
 
 /// How large the amounts of a period are.
@@ -83,6 +84,7 @@ impl Rotation {
             amounts: 0,
             step: 3,
             purses: 1,
+            washups: filling::WASHUPS,
         };
         let aim = Aim::new(Random::new(seed), &Making::alone(plan.n.into()), manner);
         Rotation { plan, reach: Reach::default(), aim, opened_after: BTreeMap::new() }
@@ -92,10 +94,19 @@ impl Rotation {
         if self.reach.entries < EARLIEST {
             return self.aim.early_money();
         }
+        if self.is_just_full() {
+            return self.aim.opening();
+        }
         let wrong = self.aim.random.chance(1, WRONG).then(|| self.refused());
         let entry = wrong.flatten().or_else(|| self.due()).or_else(|| self.by_share());
         // Period 0 cannot be opened: what is left when nothing else fits.
         entry.unwrap_or(Entry::open(0))
+    }
+
+    /// Whether the entry before opened the twelfth period: with few participants it may leave soon.
+    fn is_just_full(&self) -> bool {
+        let last = self.opened_after.values().max();
+        self.aim.book.periods.len() == MOST_PERIODS && last == Some(&self.reach.entries)
     }
 
     /// An entry that the book refuses. While twelve periods are in it, which is seldom with few
@@ -153,8 +164,8 @@ impl Rotation {
         Some(Entry::receipt(number, payer as u8, most as u64))
     }
 
-    /// A receipt, a late one, money for a purse, or energy or an amount, each by its share of a
-    /// month's entries.
+    /// A receipt, a late one, money for a purse, or energy, a washup or an amount, each by its share
+    /// of a month's entries.
     fn by_share(&mut self) -> Option<Entry> {
         let (n, month) = (u64::from(self.plan.n), self.plan.entries_of_a_month());
         let receipts = (2 * n).min(month / 8);
@@ -174,7 +185,7 @@ impl Rotation {
     }
 
     /// A period in the book at a stage.
-    fn any_at(&mut self, fits: impl Fn(&Stage) -> bool) -> Option<u32> {
+    pub(super) fn any_at(&mut self, fits: impl Fn(&Stage) -> bool) -> Option<u32> {
         let periods = self.aim.book.periods.iter();
         let numbers: Vec<u32> =
             periods.filter(|(_, period)| fits(&period.stage)).map(|(&number, _)| number).collect();
@@ -222,22 +233,16 @@ impl Rotation {
         self.is_calm() || random.chance(1, RECOVERING)
     }
 
-    fn energy_or_amount(&mut self) -> Option<Entry> {
-        let number = self.any_at(|stage| matches!(stage, Stage::BeforeNotice))?;
-        let scale = scale_of(number);
-        let early = scale == Scale::Bound && self.age(number) < FULL_FROM;
-        self.aim.manner.scale = if early { Scale::Millions } else { scale };
-        Some(self.aim.energy_or_amount(number))
-    }
-
     /// Applies an entry to the book that is aimed by.
     fn take(&mut self, entry: &Entry) {
         let before = self.aim.book.periods.get(&entry.period);
         let was_settled = before.is_some_and(|it| matches!(it.stage, Stage::Settled { .. }));
         let half = before.and_then(|period| Half::of(entry, &period.sums));
         self.reach.purses.before(&self.aim.book, entry);
+        self.reach.washups.before(&self.aim.book, entry);
         let answer = self.aim.book.apply(entry, &mut vec![0; self.aim.book.n]).number;
         self.reach.purses.after(answer);
+        self.reach.washups.after(answer);
         self.reach.entries += 1;
         self.reach.count.answers[usize::from(answer)] += 1;
         self.reach.count.halves.take(half, answer);

@@ -2,9 +2,10 @@
 
 use super::rotation::{Plan, Reach, Rotation};
 use super::streams::{hold, Compared, Watch};
-use super::{covered, NOT_REQUIRED, SEED};
+use super::{covered, NOT_REQUIRED, SEED, WASHUPS_NOT_REQUIRED};
 use crate::draws::Sight;
 use crate::listing;
+use crate::washups;
 use std::io::{self, BufWriter, Write};
 use std::thread;
 
@@ -101,6 +102,19 @@ fn a_feed_in_which_something_of_purses_is_never_seen_covers_too_little() {
         let mut less = rotation.reach.clone();
         less.purses.draws.counts[sight as usize] = 0;
         assert_eq!(covered(&PLAN, &less), NOT_REQUIRED.contains(&sight), "{}", sight.name());
+    }
+}
+
+#[test]
+fn a_feed_in_which_something_of_washups_is_never_seen_covers_too_little() {
+    let mut rotation = Rotation::new(PLAN, SEED);
+    rotation.by_ref().for_each(drop);
+    for (sight, side) in washups::Sight::ALL.into_iter().flat_map(|sight| [(sight, 0), (sight, 1)])
+    {
+        let mut less = rotation.reach.clone();
+        less.washups.washups.counts[sight as usize][side] = 0;
+        let required = !WASHUPS_NOT_REQUIRED.contains(&sight);
+        assert_eq!(covered(&PLAN, &less), !required, "{}", sight.name());
     }
 }
 
