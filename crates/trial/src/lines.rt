@@ -44,7 +44,7 @@ pub fn layout_of(e: Entry) -> Layout
     ensures { λ r. ⌜ r .count ≤ 7 ⌝ }
 {
     match e {
-        Entry::Open { period } => three(1, 1, period as u64, 0, 0),
+        Entry::Open { period } => up_to_three(1, 1, period as u64, 0, 0),
         Entry::Energy {
             period,
             participant,
@@ -59,14 +59,14 @@ pub fn layout_of(e: Entry) -> Layout
             tier,
             cents,
         } => five(3, period, participant, side, tier as u64, cents),
-        Entry::Notice { period } => three(4, 1, period as u64, 0, 0),
+        Entry::Notice { period } => up_to_three(4, 1, period as u64, 0, 0),
         Entry::Receipt {
             period,
             participant,
             cents,
-        } => three(5, 3, period as u64, participant as u64, cents),
-        Entry::Settle { period } => three(6, 1, period as u64, 0, 0),
-        Entry::Purse { participant, cents } => three(7, 2, participant as u64, cents, 0),
+        } => up_to_three(5, 3, period as u64, participant as u64, cents),
+        Entry::Settle { period } => up_to_three(6, 1, period as u64, 0, 0),
+        Entry::Purse { participant, cents } => up_to_three(7, 2, participant as u64, cents, 0),
         Entry::Washup {
             period,
             earlier,
@@ -75,12 +75,12 @@ pub fn layout_of(e: Entry) -> Layout
             old,
             new,
             price,
-        } => seven(period, earlier, participant, side, old, new, price),
+        } => of_washup(period, earlier, participant, side, old, new, price),
     }
 }
 
 // The layout of a kind with up to three fields.
-fn three(kind: u64, count: usize, first: u64, second: u64, third: u64) -> Layout
+fn up_to_three(kind: u64, count: usize, first: u64, second: u64, third: u64) -> Layout
     requires { ⌜ count ≤ 3 ⌝ }
     ensures { λ r. ⌜ r .count ≤ 7 ⌝ }
 {
@@ -110,8 +110,8 @@ fn five(kind: u64, period: u32, participant: u8, side: u8, fourth: u64, fifth: u
     }
 }
 
-// The layout of a washup, the kind with seven fields.
-fn seven(
+// The layout of a washup, which has the most fields.
+fn of_washup(
     period: u32,
     earlier: u32,
     participant: u8,

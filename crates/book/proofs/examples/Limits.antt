@@ -45,12 +45,12 @@ field-limits = record {
   most-cents-receipt = refl;
   participant-purse = refl;
   least-cents-purse = refl;
+  most-cents-purse = refl;
   participant-washup = refl;
   side-washup = refl;
   old-quantity = refl;
   new-quantity = refl;
   price-washup = refl;
-  most-cents-purse = refl;
 }
 
 byte-limits : ByteLimits
