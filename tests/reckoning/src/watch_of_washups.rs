@@ -198,6 +198,7 @@ fn only_washup(entry: &Entry) -> Entry {
 mod tests {
     use super::*;
     use crate::by_hand::Case;
+    use crate::calls;
     use crate::feeds;
     use crate::listing;
     use crate::trial;
@@ -276,14 +277,18 @@ mod tests {
         }
     }
 
-    /// What a book saw is forgotten when another takes its place.
+    /// Old to new in one book and new to old in the next is not there and back.
     #[test]
     fn another_book_is_watched_anew() {
-        let cases = trials_of_washups::every_case();
-        let calls: Vec<u8> = cases.iter().flat_map(Case::trial).collect();
-        let mut expected = Washups::default();
-        cases.iter().for_each(|case| expected.add(&washups_of(case)));
-        assert_eq!(trial::lines_by(Book::make, &calls).1.washups, expected);
+        let there = Entry::washup(2, 1, 1, 0, 100, 300, 100);
+        let in_a_book = |entry: Entry| {
+            let entries = [Entry::open(2), entry].map(|entry| calls::apply(&entry, 3));
+            [calls::book(3), entries.concat()].concat()
+        };
+        let calls = [there, washup::turned(&there)].map(in_a_book).concat();
+        let washups = trial::lines_by(Book::make, &calls).1.washups;
+        let seen = [Sight::Up, Sight::Down, Sight::ThereAndBack].map(|sight| washups.of(sight));
+        assert_eq!(seen, [[1, 0], [1, 0], [0, 0]]);
     }
 
     /// Without the cases by hand.
