@@ -157,8 +157,8 @@ fn with_earlier_periods(period: u32, right: [u32; 2], wrong: &[u32]) -> Vec<Step
     steps
 }
 
-/// 1 to 24 below: 0 is for periods 1 to 24, and nothing wraps. None of them was ever opened, but for
-/// 1, 2 and 24 in periods 25 and 26.
+/// 1 to 24 below: 0 is for periods 1 to 24, and nothing wraps. Opened before were only 1 (for period
+/// 2), 1 and 24 (for 25), 2 and 25 (for 26).
 fn earlier_periods() -> Vec<Step> {
     let last = u32::MAX;
     let months = [

@@ -33,7 +33,7 @@ fn by_wrapping(_: &Book, entry: &Entry) -> bool {
     (1..=24).contains(&entry.period.wrapping_sub(entry.earlier_period))
 }
 
-/// 24 or more is taken from the period first, which wraps for the periods below 24.
+/// 24 is taken from the period first, which wraps for the periods below 24.
 fn by_a_wrapping_bound(_: &Book, entry: &Entry) -> bool {
     let farthest = entry.period.wrapping_sub(24);
     farthest <= entry.earlier_period && entry.earlier_period < entry.period
@@ -128,7 +128,7 @@ fn eight_for_the_earlier(book: &mut Book, entry: &Entry, words: &mut [u64]) -> A
     refusing(book, entry, words, PERIOD_NOT_IN_BOOK, |book| !is_in_book(book, entry))
 }
 
-/// The earlier period must be settled, or have left the book.
+/// The earlier period must not be before its notice.
 fn nine_for_the_earlier(book: &mut Book, entry: &Entry, words: &mut [u64]) -> Answer {
     refusing(book, entry, words, WRONG_STAGE, |book| {
         let earlier = book.periods.get(&entry.earlier_period);

@@ -25,7 +25,8 @@ pub enum Sight {
     NotInBook,
     /// The period is one of the last 24 numbers of 32 bits.
     LastNumbers,
-    /// From new to old right after old to new, otherwise alike; and not of 0 cents.
+    /// From new to old as the next accepted washup after old to new, otherwise alike; and not of 0
+    /// cents.
     ThereAndBack,
     /// Accepted just up to the bound of the side that the amount lands on.
     UpToBound,
