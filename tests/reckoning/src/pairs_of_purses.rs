@@ -16,9 +16,10 @@ fn with_a_full_purse(scene: &[u8]) -> Vec<u8> {
 
 /// A purse entry with nonsense in the fields that it lacks.
 fn purse(participant: u8, cents: u64) -> Entry {
-    let (quantity, price) = (u32::MAX, u32::MAX);
+    let [quantity, old_quantity, price] = [u32::MAX; 3];
     let entry = Entry::purse(participant, cents);
-    Entry { period: NEVER, side: 2, tier: 6, quantity, price, ..entry }
+    let entry = Entry { period: NEVER, earlier_period: NEVER, side: 2, tier: 6, ..entry };
+    Entry { quantity, old_quantity, price, ..entry }
 }
 
 fn rows() -> Vec<Row> {

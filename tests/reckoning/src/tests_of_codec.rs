@@ -46,6 +46,24 @@ fn reading_undoes_writing() {
     }
 }
 
+/// Lowers the fields of random bytes, so that many are inside their values.
+fn lower_fields(bytes: &mut [u8]) {
+    let kind = bytes[0];
+    let mut rest = &mut bytes[1..];
+    for &field in if kind_exists(kind) { layout(kind) } else { &[] } {
+        let (found, after) = rest.split_at_mut(width(field));
+        match field {
+            Field::Participant => found[0] %= 66,
+            Field::Side => found[0] %= 3,
+            Field::Tier => found[0] %= 7,
+            Field::Quantity | Field::OldQuantity | Field::Price => found[3..].fill(0),
+            Field::Cents => found[5..].fill(0),
+            Field::Period | Field::EarlierPeriod => (),
+        }
+        rest = after;
+    }
+}
+
 #[test]
 fn writing_undoes_reading() {
     let mut random = Random::new(2);
@@ -53,19 +71,7 @@ fn writing_undoes_reading() {
     for _ in 0..200_000 {
         let mut bytes = random.bytes(LONGEST_ENTRY);
         bytes[0] %= LAST_KIND + 1;
-        // A purse entry's participant is its first field.
-        bytes[1] %= 66;
-        // Small fields, so that many are inside their values.
-        bytes[5] %= 66;
-        bytes[6] %= 3;
-        bytes[7] %= 7;
-        // A washup's participant and side come behind two periods.
-        bytes[9] %= 66;
-        bytes[10] %= 3;
-        bytes[11] %= 3;
-        // A purse entry's cents end earlier than those of others.
-        let large = if bytes[0] == PURSE { 7 } else { 12 };
-        bytes[large..].fill(0);
+        lower_fields(&mut bytes);
         if let Ok((entry, next)) = read(&bytes, 0) {
             let mut lent = [0; LONGEST_ENTRY];
             assert_eq!(write(&entry, &mut lent), Ok(next as usize));
@@ -143,6 +149,7 @@ fn a_purse_entry_has_ten_bytes() {
     let entry = Entry::purse(2, 300);
     let bytes = [7, 2, 44, 1, 0, 0, 0, 0, 0, 0];
     let with_others = Entry { period: 9, side: 2, tier: 6, quantity: 5, price: 4, ..entry };
+    let with_others = Entry { earlier_period: 3, old_quantity: 2, ..with_others };
     for entry in [entry, with_others] {
         let mut lent = [238; 12];
         assert_eq!(write(&entry, &mut lent), Ok(10));
