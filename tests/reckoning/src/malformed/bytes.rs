@@ -23,16 +23,17 @@ pub fn scene() -> Vec<Entry> {
     entries
 }
 
-/// Entries of every kind and side. After the scene each is accepted, alone and in this order.
+/// Entries of every kind and side. After the scene each is accepted, alone and in this order: both
+/// washups add 41,400 on side 0, up where it is stated and down where side 1 is.
 pub fn acts() -> Vec<Entry> {
     vec![
         Entry::open(5),
         Entry::energy(4, 0, 0, 5_000, 9_000),
         Entry::energy(4, 1, 1, 5_000, 9_000),
         Entry::amount(4, 2, 0, 0, 70_000),
-        Entry::amount(4, 1, 1, 3, 70_000),
+        Entry::amount(4, 1, 1, 3, 70_000 + 2 * 41_400),
         Entry::washup(4, 3, 0, 0, 1_000, 5_000, 9_000),
-        Entry::washup(4, 0, 1, 0, 5_000, 1_000, 9_000),
+        Entry::washup(4, 0, 1, 1, 5_000, 1_000, 9_000),
         Entry::notice(4),
         Entry::receipt(3, 2, 300),
         Entry::receipt(2, 0, 100),
