@@ -2,7 +2,7 @@
 //! stand and that do not, and every stage. 1 kWh at 20,000 is 23 cents; 100, 300, 500 and 700 kWh at
 //! 100 are 11.5, 34.5, 57.5 and 80.5, which go to 12, 34, 58 and 80.
 
-use crate::by_hand::{pays, refused, stands, Case, Step};
+use crate::by_hand::{month_a, pays, refused, stands, Case, Step};
 use crate::codec::Entry;
 use crate::refusals::*;
 
@@ -21,18 +21,9 @@ fn paid_to_1(period: u32, cents: u64) -> Vec<Step> {
     ]
 }
 
-/// All of month A but its tier 1 by washups: up on sides 0 and 1, and down on both. 3 and 2 kWh at
-/// 173,913 are 599.99985 and 399.9999 cents, 8 at 76,087 are 700.0004, 3 at 57,971 are 199.99995.
-/// It is the listing of 01 just where side 1 is tier 5, as stated and as the other side.
-fn month_a_by_washups() -> Vec<Step> {
-    vec![
-        stands(Entry::open(7), 0),
-        stands(Entry::washup(7, 6, 0, 0, 0, 3, 173_913), 0),
-        stands(Entry::washup(7, 1, 2, 1, 2, 0, 173_913), 0),
-        stands(Entry::amount(7, 1, 1, 1, 100), 0),
-        stands(Entry::washup(7, 0, 1, 0, 8, 0, 76_087), 0),
-        stands(Entry::washup(7, 5, 2, 1, 0, 3, 57_971), 0),
-        stands(Entry::notice(7), 0),
+/// What month A of 01, period 7, comes to after its notice.
+fn month_a_from_notice() -> [Step; 7] {
+    [
         refused(Entry::receipt(7, 0, 601), RECEIPT_ABOVE, 0),
         stands(Entry::receipt(7, 0, 300), 300),
         refused(Entry::receipt(7, 2, 335), RECEIPT_ABOVE, 300),
@@ -41,6 +32,23 @@ fn month_a_by_washups() -> Vec<Step> {
         pays(Entry::receipt(7, 0, 100), [0, 78, 22], 1),
         pays(Entry::receipt(7, 0, 200), [0, 156, 45], 0),
     ]
+}
+
+/// All of month A but its tier 1 by washups: up on sides 0 and 1, and down on both. 3 and 2 kWh at
+/// 173,913 are 599.99985 and 399.9999 cents, 8 at 76,087 are 700.0004, 3 at 57,971 are 199.99995.
+/// It is the listing of 01 just where side 1 is tier 5, as stated and as the other side.
+fn month_a_by_washups() -> Vec<Step> {
+    let mut steps = vec![
+        stands(Entry::open(7), 0),
+        stands(Entry::washup(7, 6, 0, 0, 0, 3, 173_913), 0),
+        stands(Entry::washup(7, 1, 2, 1, 2, 0, 173_913), 0),
+        stands(Entry::amount(7, 1, 1, 1, 100), 0),
+        stands(Entry::washup(7, 0, 1, 0, 8, 0, 76_087), 0),
+        stands(Entry::washup(7, 5, 2, 1, 0, 3, 57_971), 0),
+        stands(Entry::notice(7), 0),
+    ];
+    steps.extend(month_a_from_notice());
+    steps
 }
 
 /// 34 less 12 is 22, where 200 kWh are 23. 4 kWh are 0.46 and 5 are 0.575: 1 cent, where 1 kWh is
@@ -173,6 +181,22 @@ fn earlier_periods() -> Vec<Step> {
     months.concat()
 }
 
+/// Period 7, month A, is before its notice while period 8 has washups of it, up and down on both
+/// sides: 46 cents by 0 and to 1, all in period 8. Then 7 comes to what its own entries do in 01.
+fn of_a_period_before_its_notice() -> Vec<Step> {
+    let mut steps = month_a(7, 0);
+    let notice = steps.pop().expect("month A ends with its notice");
+    steps.push(stands(Entry::open(8), 0));
+    for (participant, side) in [(0, 0), (1, 1)] {
+        steps.push(stands(washup(8, participant, side, (5, 6), 20_000), 0));
+        steps.push(stands(washup(8, participant, 1 - side, (6, 5), 20_000), 0));
+    }
+    steps.extend(paid_to_1(8, 46));
+    steps.push(notice);
+    steps.extend(month_a_from_notice());
+    steps
+}
+
 /// 23 cents at every stage, of a participant that there is not, and of 16 at the wrong stage. With
 /// nothing received 23 are in arrears, and nothing is paid before they come.
 fn at_every_stage() -> Vec<Step> {
@@ -207,6 +231,7 @@ pub fn cases() -> Vec<Case> {
         case("no change", no_change()),
         case("there and back", there_and_back()),
         case("earlier periods", earlier_periods()),
+        case("of a period before its notice", of_a_period_before_its_notice()),
         case("washups at every stage", at_every_stage()),
     ]
 }
