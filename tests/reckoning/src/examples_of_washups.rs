@@ -2,10 +2,10 @@
 //! nothing; and there and back moves both sides of the participant equally.
 
 use crate::book::{Answer, Book};
-use crate::codec::{self, Entry, WASHUP};
+use crate::codec::{self, Entry, MOST_CENTS, WASHUP};
 use crate::energies;
 use crate::feeds;
-use crate::month::{energy_cents, Sums};
+use crate::month::energy_cents;
 use crate::quantities;
 use crate::random::Random;
 use crate::washup;
@@ -74,30 +74,49 @@ fn a_washup_is_an_amount_of_the_difference() {
     );
 }
 
-/// What washups add to both sides of participant 1; whatever was there before.
-fn moved(entries: &[Entry]) -> (u128, [u128; 5]) {
-    let mut sums = Sums::new(2);
-    for entry in entries {
-        if let Some(to) = washup::added(entry) {
-            sums.add(entry.participant.into(), to.side, to.tier, to.cents);
-        }
+/// A book with period 9, in which each side of both participants has some cents, or nearly the bound.
+fn some_book(random: &mut Random) -> Book {
+    let mut book = Book::alone(2);
+    let mut entries = vec![Entry::open(9)];
+    for side in [0, 1] {
+        let tier = side * random.between(1, 5) as u8;
+        let nearly = MOST_CENTS - 1_000 - random.below(5_000);
+        let cents = random.pick(&[1, 700, nearly]);
+        entries.push(Entry::amount(9, 1, side, tier, 1_000));
+        entries.push(Entry::amount(9, 0, side, tier, cents));
     }
+    let mut words = [0; 2];
+    assert!(entries.iter().all(|entry| book.apply(entry, &mut words).number == 0));
+    book
+}
+
+/// Both sides of participant 1 in period 9, side 1 by tier.
+fn sides(book: &Book) -> (u128, [u128; 5]) {
+    let sums = &book.periods[&9].sums;
     (sums.by[1], sums.to[1])
 }
 
+/// Where both are accepted; in some books one of them passes a bound.
 #[test]
 fn there_and_back_moves_both_sides_equally() {
     let mut random = Random::new(11);
-    for scale in energies::SCALES {
-        for _ in 0..2_000 {
-            let side = random.below(2) as u8;
-            let found = quantities::any(&mut random, scale);
-            let there = Entry::washup(9, 8, 1, side, found.old, found.new, found.price);
-            let (by, to) = moved(&[there, washup::turned(&there)]);
-            assert_eq!(to, [0, 0, 0, 0, by], "{there:?}");
-            assert_eq!(by, found.cents().unsigned_abs());
+    let mut counts = [0; 2];
+    for scale in energies::SCALES.iter().flat_map(|&scale| [scale; 2_000]) {
+        let (mut book, side) = (some_book(&mut random), random.below(2) as u8);
+        let found = quantities::any(&mut random, scale);
+        let there = Entry::washup(9, 8, 1, side, found.old, found.new, found.price);
+        let (by, to) = sides(&book);
+        let both = [there, washup::turned(&there)];
+        let accepted = both.iter().all(|entry| book.apply(entry, &mut [0; 2]).number == 0);
+        counts[usize::from(accepted)] += 1;
+        if accepted {
+            let cents = found.cents().unsigned_abs();
+            let mut moved = to;
+            moved[4] += cents;
+            assert_eq!(sides(&book), (by + cents, moved), "{there:?}");
         }
     }
+    assert!(counts.iter().all(|&count| count > 1_000), "{counts:?}");
 }
 
 /// From 1 below to 24 below, and no other: also where the period is below 24 or the last.
