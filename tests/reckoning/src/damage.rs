@@ -97,11 +97,11 @@ fn refuse_money(lines: &mut [String]) -> bool {
     true
 }
 
-/// Accepts the last receipt or purse entry that was refused for its cents or its payer.
-fn accept_refused(lines: &mut [String]) -> bool {
+/// Accepts the last entry that was refused with one of some numbers.
+fn accept_refused(lines: &mut [String], with: &[&str]) -> bool {
     let refused = |line: &&mut String| {
         let words = words(line);
-        is_entry(&words) && ["13", "14", "15"].contains(&words[1].as_str())
+        is_entry(&words) && with.contains(&words[1].as_str())
     };
     let line = lines.iter_mut().rev().find(refused);
     line.map(|line| *line = format!("{} 0 0 {}", words(line)[0], words(line)[3])).is_some()
@@ -112,7 +112,7 @@ fn change_refusal(lines: &mut [String]) -> bool {
     raise(lines, "", 1, |words| is_entry(words) && words[1] == "8")
 }
 
-const OF_LISTING: [Damage; 13] = [
+const OF_LISTING: [Damage; 14] = [
     both("a payout changed by a cent", |l| raise(l, "pay ", 2, is_pay)),
     both("a payout given to the next participant", |l| raise(l, "pay ", 1, is_pay)),
     both("two payouts swapped", |l| swap_payouts(l)),
@@ -123,7 +123,8 @@ const OF_LISTING: [Damage; 13] = [
     by_text("an accepted entry refused", |l| refuse_accepted(l)),
     by_text("a refusal changed to another", |l| change_refusal(l)),
     both("money that came in refused", |l| refuse_money(l)),
-    both("money that was refused accepted", |l| accept_refused(l)),
+    both("money that was refused accepted", |l| accept_refused(l, &["13", "14", "15"])),
+    both("a washup that was refused accepted", |l| accept_refused(l, &["16"])),
     both("an entry's number changed", |l| raise(l, "", 0, is_entry)),
     both("the header lost", |l| !l.remove(0).is_empty()),
 ];
