@@ -69,31 +69,16 @@ fn instead(
     Answer { number, ..answer }
 }
 
-/// 16 before some refusals that it comes after.
-fn before(book: &mut Book, entry: &Entry, words: &mut [u64], of: &[u8]) -> Answer {
+/// The refusals that 16 comes after, in their order.
+const BEFORE_16: [u8; 6] =
+    [N_REFUSED, TOO_LITTLE_LENT, FIELD_OUTSIDE, PERIOD_NOT_IN_BOOK, NO_PARTICIPANT, WRONG_STAGE];
+
+/// 16 before one of these refusals, and so before those that follow it.
+fn before(book: &mut Book, entry: &Entry, words: &mut [u64], first: u8) -> Answer {
+    let place = BEFORE_16.iter().position(|&number| number == first).expect("one of them");
     let outside = !earlier_stands(entry);
-    instead(book, entry, words, of, |_| outside.then_some(EARLIER_PERIOD_OUTSIDE))
-}
-
-fn before_9(book: &mut Book, entry: &Entry, words: &mut [u64]) -> Answer {
-    before(book, entry, words, &[WRONG_STAGE])
-}
-
-fn before_12(book: &mut Book, entry: &Entry, words: &mut [u64]) -> Answer {
-    before(book, entry, words, &[NO_PARTICIPANT, WRONG_STAGE])
-}
-
-fn before_8(book: &mut Book, entry: &Entry, words: &mut [u64]) -> Answer {
-    before(book, entry, words, &[PERIOD_NOT_IN_BOOK, NO_PARTICIPANT, WRONG_STAGE])
-}
-
-fn before_3(book: &mut Book, entry: &Entry, words: &mut [u64]) -> Answer {
-    let of = [FIELD_OUTSIDE, PERIOD_NOT_IN_BOOK, NO_PARTICIPANT, WRONG_STAGE];
-    before(book, entry, words, &of)
-}
-
-fn before_5(book: &mut Book, entry: &Entry, words: &mut [u64]) -> Answer {
-    before(book, entry, words, &[TOO_LITTLE_LENT])
+    let sixteen = |_: &Book| outside.then_some(EARLIER_PERIOD_OUTSIDE);
+    instead(book, entry, words, &BEFORE_16[place..], sixteen)
 }
 
 /// Whether what a washup adds would pass the bound of the side that it lands on.
@@ -195,13 +180,14 @@ fn a_cent_less_tested(entry: &Entry) -> Option<Addition> {
     added(entry).map(|to| Addition { cents: to.cents - 1, ..to })
 }
 
-pub const WRONG: [Wrong; 37] = [
+pub const WRONG: [Wrong; 38] = [
     wrong("16 after 11", |m| applying(m, after_11)),
-    wrong("16 before 9", |m| applying(m, before_9)),
-    wrong("16 before 12", |m| applying(m, before_12)),
-    wrong("16 before 8", |m| applying(m, before_8)),
-    wrong("16 before 3", |m| applying(m, before_3)),
-    wrong("16 before 5", |m| applying(m, before_5)),
+    wrong("16 before 9", |m| applying(m, |b, e, words| before(b, e, words, WRONG_STAGE))),
+    wrong("16 before 12", |m| applying(m, |b, e, words| before(b, e, words, NO_PARTICIPANT))),
+    wrong("16 before 8", |m| applying(m, |b, e, words| before(b, e, words, PERIOD_NOT_IN_BOOK))),
+    wrong("16 before 3", |m| applying(m, |b, e, words| before(b, e, words, FIELD_OUTSIDE))),
+    wrong("16 before 5", |m| applying(m, |b, e, words| before(b, e, words, TOO_LITTLE_LENT))),
+    wrong("16 before 4", |m| applying(m, |b, e, words| before(b, e, words, N_REFUSED))),
     wrong("16 never", |m| standing(m, |_, _| true)),
     wrong("16 always", |m| standing(m, |_, _| false)),
     wrong("25 below accepted", |m| standing(m, |_, e| (1..=25).contains(&below_of(e)))),
