@@ -7,6 +7,7 @@ use crate::refusals::{ACCEPTED, FIELD_OUTSIDE, N_REFUSED};
 use crate::retention::{
     g_of, gift, group_sum, is_member, largest_gifts, retention, s_of, Retention,
 };
+use crate::ways::{Applied, Ways};
 
 #[derive(Clone, Copy)]
 pub struct Wrong {
@@ -16,11 +17,21 @@ pub struct Wrong {
     pub by_demand_3: bool,
 }
 
+/// The right book, but for some of its ways.
+pub(crate) fn with_ways(making: &Making, change: impl Fn(&mut Ways)) -> (Book, u8) {
+    let (mut book, answer) = Book::make(making);
+    change(&mut book.ways);
+    (book, answer)
+}
+
+/// The right book, but for how it applies entries.
+pub(crate) fn applying(making: &Making, applied: Applied) -> (Book, u8) {
+    with_ways(making, |ways| ways.applied = applied)
+}
+
 /// The right book, but for how it reckons A.
 fn retaining(making: &Making, retention: Retention) -> (Book, u8) {
-    let (mut book, answer) = Book::make(making);
-    book.ways.retention = retention;
-    (book, answer)
+    with_ways(making, |ways| ways.retention = retention)
 }
 
 /// The book of an answer that was found in a wrong way.

@@ -9,21 +9,12 @@ use crate::period::{Period, Stage};
 use crate::purse::Payer;
 use crate::refusals::{ACCEPTED, RECEIPT_ABOVE};
 use crate::retention::{g_of, is_member, largest_gifts, s_of};
-use crate::versions::{unbalanced, wrong, Wrong};
-use crate::ways::{Applied, Drawn};
+use crate::versions::{applying, unbalanced, with_ways, wrong, Wrong};
+use crate::ways::Drawn;
 
 /// The right book, but for what a settlement draws.
 fn drawing(making: &Making, drawn: Drawn) -> (Book, u8) {
-    let (mut book, answer) = Book::make(making);
-    book.ways.drawn = drawn;
-    (book, answer)
-}
-
-/// The right book, but for how it applies entries.
-pub(crate) fn applying(making: &Making, applied: Applied) -> (Book, u8) {
-    let (mut book, answer) = Book::make(making);
-    book.ways.applied = applied;
-    (book, answer)
+    with_ways(making, |ways| ways.drawn = drawn)
 }
 
 /// What is drawn where another condition bars.
@@ -109,9 +100,10 @@ fn at_notice_too(book: &mut Book, entry: &Entry, words: &mut [u64]) -> Answer {
 }
 
 fn at_notice_alone(making: &Making) -> (Book, u8) {
-    let (mut book, answer) = applying(making, at_notice_too);
-    book.ways.drawn = |book, _| vec![0; book.n];
-    (book, answer)
+    with_ways(making, |ways| {
+        ways.applied = at_notice_too;
+        ways.drawn = |book, _| vec![0; book.n];
+    })
 }
 
 fn when_it_comes(book: &mut Book, entry: &Entry, words: &mut [u64]) -> Answer {

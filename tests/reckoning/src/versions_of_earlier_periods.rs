@@ -5,24 +5,21 @@ use crate::book::{Answer, Book, MOST_TOTAL};
 use crate::codec::{Entry, WASHUP};
 use crate::making::Making;
 use crate::refusals::*;
-use crate::versions::{wrong, Wrong};
-use crate::versions_of_draws::applying;
-use crate::versions_of_washups::rounded_once;
+use crate::versions::{applying, with_ways, wrong, Wrong};
+use crate::versions_of_washups::{
+    a_cent_for_nothing, new_alone, on_the_stated_side, rounded_once, up_alone,
+};
 use crate::washup::{added, amounts, below, earlier_stands, Addition};
-use crate::ways::Washed;
+use crate::ways::WashupAdded;
 
 /// The right book, but for the earlier periods that stand.
 fn standing(making: &Making, stands: fn(&Book, &Entry) -> bool) -> (Book, u8) {
-    let (mut book, answer) = Book::make(making);
-    book.ways.earlier_stands = stands;
-    (book, answer)
+    with_ways(making, |ways| ways.earlier_stands = stands)
 }
 
 /// The right book, but for what 11 tests of a washup.
-fn testing(making: &Making, washed: Washed) -> (Book, u8) {
-    let (mut book, answer) = Book::make(making);
-    book.ways.washup_tested = washed;
-    (book, answer)
+fn testing(making: &Making, tested: WashupAdded) -> (Book, u8) {
+    with_ways(making, |ways| ways.washup_tested = tested)
 }
 
 fn below_of(entry: &Entry) -> i64 {
@@ -147,25 +144,9 @@ fn passed_over_after_notice(book: &mut Book, entry: &Entry, words: &mut [u64]) -
     answer
 }
 
-fn stated_side_tested(entry: &Entry) -> Option<Addition> {
-    added(entry).map(|to| Addition { side: entry.side, ..to })
-}
-
 fn larger_tested(entry: &Entry) -> Option<Addition> {
     let (old, new) = amounts(entry);
     added(entry).map(|to| Addition { cents: old.max(new), ..to })
-}
-
-fn new_tested(entry: &Entry) -> Option<Addition> {
-    Some(Addition { side: entry.side, tier: 5, cents: amounts(entry).1 })
-}
-
-fn a_cent_tested_for_nothing(entry: &Entry) -> Option<Addition> {
-    added(entry).or(Some(Addition { side: entry.side, tier: 5, cents: 1 }))
-}
-
-fn up_tested_alone(entry: &Entry) -> Option<Addition> {
-    added(entry).filter(|to| to.side == entry.side)
 }
 
 fn down_tested_alone(entry: &Entry) -> Option<Addition> {
@@ -210,13 +191,13 @@ pub const WRONG: [Wrong; 38] = [
     wrong("3 for a negative amount", |m| applying(m, three_for_a_negative_amount)),
     wrong("3 where nothing changes", |m| applying(m, three_for_no_change)),
     wrong("11 never tested", |m| testing(m, |_| None)),
-    wrong("11 on the stated side", |m| testing(m, stated_side_tested)),
+    wrong("11 on the stated side", |m| testing(m, on_the_stated_side)),
     wrong("11 on both sides", |m| applying(m, both_sides_tested)),
     wrong("11 with the larger amount", |m| testing(m, larger_tested)),
-    wrong("11 with the new amount", |m| testing(m, new_tested)),
+    wrong("11 with the new amount", |m| testing(m, new_alone)),
     wrong("11 with the difference rounded once", |m| testing(m, rounded_once)),
-    wrong("11 on a full side where nothing changes", |m| testing(m, a_cent_tested_for_nothing)),
-    wrong("11 with a positive amount alone", |m| testing(m, up_tested_alone)),
+    wrong("11 on a full side where nothing changes", |m| testing(m, a_cent_for_nothing)),
+    wrong("11 with a positive amount alone", |m| testing(m, up_alone)),
     wrong("11 with a negative amount alone", |m| testing(m, down_tested_alone)),
     wrong("11 at the bound", |m| testing(m, a_cent_more_tested)),
     wrong("a cent past the bound accepted", |m| testing(m, a_cent_less_tested)),

@@ -7,13 +7,12 @@ use crate::making::Making;
 use crate::period::{Period, Stage};
 use crate::purse::MOST_PURSE;
 use crate::refusals::*;
-use crate::versions::{unbalanced, wrong, Wrong};
-use crate::versions_of_draws::applying;
+use crate::versions::{applying, unbalanced, with_ways, wrong, Wrong};
 
 fn held_without_purses(making: &Making) -> (Book, u8) {
-    let (mut book, answer) = Book::make(making);
-    book.ways.held = |book| book.periods.values().map(Period::held).sum();
-    (book, answer)
+    with_ways(making, |ways| {
+        ways.held = |book| book.periods.values().map(Period::held).sum();
+    })
 }
 
 /// Applies an entry, and gives what each payer had drawn.

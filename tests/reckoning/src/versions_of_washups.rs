@@ -6,17 +6,14 @@ use crate::codec::{Entry, WASHUP};
 use crate::making::Making;
 use crate::month::{energy_cents, Sums};
 use crate::refusals::ACCEPTED;
-use crate::versions::{unbalanced, wrong, Wrong};
-use crate::versions_of_draws::applying;
+use crate::versions::{applying, unbalanced, with_ways, wrong, Wrong};
+use crate::versions_of_halves::{cut, half_down, half_up, product, up, EnergyCents};
 use crate::washup::{added, amounts, difference, Addition};
-use crate::ways::Washed;
+use crate::ways::WashupAdded;
 
 /// The right book, but for what a washup adds, which 11 tests too.
-fn adding(making: &Making, washed: Washed) -> (Book, u8) {
-    let (mut book, answer) = Book::make(making);
-    book.ways.washup_added = washed;
-    book.ways.washup_tested = washed;
-    (book, answer)
+fn adding(making: &Making, added: WashupAdded) -> (Book, u8) {
+    with_ways(making, |ways| (ways.washup_added, ways.washup_tested) = (added, added))
 }
 
 /// The energy amount of the difference of the quantities.
@@ -26,49 +23,23 @@ pub(crate) fn rounded_once(entry: &Entry) -> Option<Addition> {
     difference(entry.side, (of(old.saturating_sub(new)), of(new.saturating_sub(old))))
 }
 
-/// The difference of two amounts that are reckoned by a function of the product.
-fn by(entry: &Entry, old: fn(u128) -> u128, new: fn(u128) -> u128) -> Option<Addition> {
-    let product = |kwh: u32| u128::from(kwh) * u128::from(entry.price);
-    let amounts = (old(product(entry.old_quantity)), new(product(entry.quantity)));
+/// The difference of two amounts that are each reckoned so.
+fn by(entry: &Entry, old: EnergyCents, new: EnergyCents) -> Option<Addition> {
+    let amounts = (old(entry.old_quantity, entry.price), new(entry.quantity, entry.price));
     difference(entry.side, amounts)
 }
 
-fn half_up(product: u128) -> u128 {
-    (product * 115 + 50_000) / 100_000
+fn without_gst(quantity: u32, price: u32) -> u128 {
+    (product(quantity, price) + 500) / 1_000
 }
 
-fn half_down(product: u128) -> u128 {
-    (product * 115 + 49_999) / 100_000
+/// Also where the new amount is less than the old one.
+pub(crate) fn on_the_stated_side(entry: &Entry) -> Option<Addition> {
+    added(entry).map(|addition| Addition { side: entry.side, ..addition })
 }
 
-fn half_to_even(product: u128) -> u128 {
-    let down = half_down(product);
-    down + u128::from(down % 2 == 1 && half_up(product) > down)
-}
-
-fn cut(product: u128) -> u128 {
-    product * 115 / 100_000
-}
-
-fn up(product: u128) -> u128 {
-    (product * 115).div_ceil(100_000)
-}
-
-/// What is added where the new amount is less than the old one, else as it is right.
-fn where_down(entry: &Entry, down: impl Fn(Addition) -> Option<Addition>) -> Option<Addition> {
-    let addition = added(entry)?;
-    if addition.side == entry.side {
-        return Some(addition);
-    }
-    down(addition)
-}
-
-fn left_on_its_side(entry: &Entry) -> Option<Addition> {
-    where_down(entry, |addition| Some(Addition { side: entry.side, ..addition }))
-}
-
-fn dropped(entry: &Entry) -> Option<Addition> {
-    where_down(entry, |_| None)
+pub(crate) fn up_alone(entry: &Entry) -> Option<Addition> {
+    added(entry).filter(|addition| addition.side == entry.side)
 }
 
 /// The tier of side 1 in some cases.
@@ -99,7 +70,7 @@ fn tier_of_the_field(entry: &Entry) -> Option<Addition> {
     to_tier(entry, entry.tier.clamp(1, 5).into(), |_, _| true)
 }
 
-fn a_cent_for_nothing(entry: &Entry) -> Option<Addition> {
+pub(crate) fn a_cent_for_nothing(entry: &Entry) -> Option<Addition> {
     let cent = Addition { side: entry.side, tier: 5, cents: 1 };
     added(entry).or(Some(cent))
 }
@@ -109,7 +80,7 @@ fn turned(entry: &Entry) -> Option<Addition> {
     difference(entry.side, (new, old))
 }
 
-fn new_alone(entry: &Entry) -> Option<Addition> {
+pub(crate) fn new_alone(entry: &Entry) -> Option<Addition> {
     difference(entry.side, (0, amounts(entry).1))
 }
 
@@ -127,10 +98,6 @@ fn always_on_the_other_side(entry: &Entry) -> Option<Addition> {
 
 fn in_32_bits(entry: &Entry) -> Option<Addition> {
     added(entry).map(|addition| Addition { cents: addition.cents % (1 << 32), ..addition })
-}
-
-fn without_gst(entry: &Entry) -> Option<Addition> {
-    by(entry, |product| (product + 500) / 1_000, |product| (product + 500) / 1_000)
 }
 
 /// Takes cents from a side of a participant, not below 0.
@@ -237,16 +204,16 @@ fn words_left(book: &mut Book, entry: &Entry, words: &mut [u64]) -> Answer {
 pub const WRONG: [Wrong; 31] = [
     unbalanced("the difference of the quantities rounded once", |m| adding(m, rounded_once)),
     unbalanced("a half up", |m| adding(m, |e| by(e, half_up, half_up))),
-    unbalanced("a half up in the old amount", |m| adding(m, |e| by(e, half_up, half_to_even))),
-    unbalanced("a half up in the new amount", |m| adding(m, |e| by(e, half_to_even, half_up))),
+    unbalanced("a half up in the old amount", |m| adding(m, |e| by(e, half_up, energy_cents))),
+    unbalanced("a half up in the new amount", |m| adding(m, |e| by(e, energy_cents, half_up))),
     unbalanced("a half down", |m| adding(m, |e| by(e, half_down, half_down))),
     unbalanced("both amounts cut", |m| adding(m, |e| by(e, cut, cut))),
     unbalanced("both amounts up", |m| adding(m, |e| by(e, up, up))),
     unbalanced("the old amount cut and the new one up", |m| adding(m, |e| by(e, cut, up))),
-    unbalanced("without the GST", |m| adding(m, without_gst)),
+    unbalanced("without the GST", |m| adding(m, |e| by(e, without_gst, without_gst))),
     unbalanced("cents of 32 bits", |m| adding(m, in_32_bits)),
-    unbalanced("a negative amount left on its side", |m| adding(m, left_on_its_side)),
-    unbalanced("a negative amount dropped", |m| adding(m, dropped)),
+    unbalanced("a negative amount left on its side", |m| adding(m, on_the_stated_side)),
+    unbalanced("a negative amount dropped", |m| adding(m, up_alone)),
     unbalanced("a negative amount taken from its side", |m| applying(m, taken_from_its_side)),
     unbalanced("a negative amount with its sign not turned", |m| applying(m, sign_not_turned)),
     unbalanced("a negative amount on both sides", |m| applying(m, on_both_sides)),

@@ -9,7 +9,7 @@ use crate::washup::{self, Addition};
 /// Gives what each payer has drawn when a noticed period settles.
 pub type Drawn = fn(&Book, u32) -> Vec<u128>;
 /// Gives what a washup adds, if anything.
-pub type Washed = fn(&Entry) -> Option<Addition>;
+pub type WashupAdded = fn(&Entry) -> Option<Addition>;
 /// Applies an entry; an accepted one sets the first n payout words.
 pub type Applied = fn(&mut Book, &Entry, &mut [u64]) -> Answer;
 
@@ -24,8 +24,8 @@ pub struct Ways {
     /// Whether the earlier period of a washup stands (else 16).
     pub earlier_stands: fn(&Book, &Entry) -> bool,
     /// What a washup adds, and what 11 tests.
-    pub washup_added: Washed,
-    pub washup_tested: Washed,
+    pub washup_added: WashupAdded,
+    pub washup_tested: WashupAdded,
     /// Gives the cents held in the book.
     pub held: fn(&Book) -> u128,
     pub applied: Applied,
