@@ -22,6 +22,10 @@ pub enum Scale {
     Bound,
 }
 
+impl Scale {
+    pub const ALL: [Scale; 4] = [Scale::Few, Scale::Hundreds, Scale::Millions, Scale::Bound];
+}
+
 /// In what manner entries are proposed.
 #[derive(Clone, Copy, Debug)]
 pub struct Manner {
@@ -95,6 +99,12 @@ impl Aim {
         self.random.pick(&numbers)
     }
 
+    /// A period before its notice, if there is one.
+    pub fn any_before_notice(&mut self) -> Option<u32> {
+        let numbers = self.book.before_notice();
+        (!numbers.is_empty()).then(|| self.random.pick(&numbers))
+    }
+
     pub fn any_participant(&mut self) -> u8 {
         self.random.below(self.book.n.max(1) as u64) as u8
     }
@@ -113,9 +123,9 @@ impl Aim {
         self.energy_or_amount(number)
     }
 
-    /// What a side of a period has room for; a wrong version's may be past its bound.
+    /// What a side of a period has room for.
     pub fn room_on(&self, number: u32, side: u8) -> u64 {
-        MOST_TOTAL.saturating_sub(self.book.periods[&number].sums.total(side)) as u64
+        self.book.periods[&number].room(side) as u64
     }
 
     /// Energy, a washup or an amount for a period before its notice.

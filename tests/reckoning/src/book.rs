@@ -92,6 +92,12 @@ impl Book {
         in_periods + self.purses.iter().sum::<u128>()
     }
 
+    /// The periods before their notice, the oldest first.
+    pub fn before_notice(&self) -> Vec<u32> {
+        let periods = self.periods.iter().filter(|(_, period)| period.is_before_notice());
+        periods.map(|(&number, _)| number).collect()
+    }
+
     /// Whether an earlier settled period has arrears of this payer.
     pub fn barred(&self, period: u32, payer: usize) -> bool {
         self.periods.range(..period).any(|(_, earlier)| earlier.arrears_of(payer) > 0)
@@ -164,8 +170,8 @@ impl Book {
         }
         match entry.kind {
             ENERGY | AMOUNT => {
-                let total = period.sums.total(entry.side) + (self.ways.tested)(entry);
-                (total > MOST_TOTAL).then_some(TOTAL_PASSES_BOUND)
+                let passes = period.passes_bound(entry.side, (self.ways.tested)(entry));
+                passes.then_some(TOTAL_PASSES_BOUND)
             }
             WASHUP => self.refusal_of_washup(period, entry),
             NOTICE => (period.sums.total(0) != period.sums.total(1)).then_some(SIDES_UNEQUAL),
@@ -183,7 +189,7 @@ impl Book {
         if !(self.ways.earlier_stands)(self, entry) {
             return Some(EARLIER_PERIOD_OUTSIDE);
         }
-        let passes = |to: Addition| period.sums.total(to.side) + to.cents > MOST_TOTAL;
+        let passes = |to: Addition| period.passes_bound(to.side, to.cents);
         (self.ways.washup_tested)(entry).is_some_and(passes).then_some(TOTAL_PASSES_BOUND)
     }
 

@@ -11,10 +11,6 @@ use crate::random::Random;
 /// A quantity in kWh and a price in cents per MWh.
 pub type Energy = (u32, u32);
 
-/// Every scale.
-#[cfg(test)]
-pub const SCALES: [Scale; 4] = [Scale::Few, Scale::Hundreds, Scale::Millions, Scale::Bound];
-
 /// Some divisors of 10,000, so that both the quantity and the price have a part of it.
 const DIVISORS: [u32; 8] = [1, 8, 16, 25, 100, 625, 2_000, 10_000];
 
@@ -123,7 +119,7 @@ mod tests {
     /// Above an even cent and above an odd one, up to the largest.
     #[test]
     fn halves_of_every_scale_are_halves_of_both_kinds() {
-        for scale in SCALES {
+        for scale in Scale::ALL {
             let halves = drawn(|random| half(random, scale));
             let products: Vec<u64> = halves.iter().map(product).collect();
             assert!(products.iter().all(|product| product % 20_000 == 10_000));
@@ -139,7 +135,7 @@ mod tests {
     /// Of amounts as near as they come, as many are below a half as above it.
     #[test]
     fn what_is_next_to_a_half_is_so_on_both_sides_of_it() {
-        for scale in SCALES {
+        for scale in Scale::ALL {
             let all = drawn(|random| next_to_half(random, scale));
             let rests: Vec<u64> = all.iter().map(|next| product(next) * 115 % 100_000).collect();
             for rest in [49_885, 50_115, 49_995, 50_005] {
@@ -152,7 +148,7 @@ mod tests {
     /// A half is told by its amount: 50,000 of 100,000 are left of it.
     #[test]
     fn of_all_drawn_a_part_are_halves() {
-        for scale in SCALES {
+        for scale in Scale::ALL {
             let all = drawn(|random| any(random, scale));
             let by_amount = |energy: &Energy| product(energy) * 115 % 100_000 == 50_000;
             assert!(all.iter().all(|&(q, p)| is_half(q, p) == by_amount(&(q, p))));

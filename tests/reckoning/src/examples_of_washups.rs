@@ -1,9 +1,9 @@
 //! The words of 02, e, put over many feeds and numbers: a washup is an amount of the difference, or
 //! nothing; and there and back moves both sides of the participant equally.
 
+use crate::aim::Scale;
 use crate::book::{Answer, Book};
 use crate::codec::{self, Entry, MOST_CENTS, WASHUP};
-use crate::energies;
 use crate::feeds;
 use crate::month::energy_cents;
 use crate::quantities;
@@ -101,7 +101,7 @@ fn sides(book: &Book) -> (u128, [u128; 5]) {
 fn there_and_back_moves_both_sides_equally() {
     let mut random = Random::new(11);
     let mut counts = [0; 2];
-    for scale in energies::SCALES.iter().flat_map(|&scale| [scale; 2_000]) {
+    for scale in Scale::ALL.iter().flat_map(|&scale| [scale; 2_000]) {
         let (mut book, side) = (some_book(&mut random), random.below(2) as u8);
         let found = quantities::any(&mut random, scale);
         let there = Entry::washup(9, 8, 1, side, found.old, found.new, found.price);

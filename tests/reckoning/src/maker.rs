@@ -4,7 +4,7 @@ use crate::aim::Aim;
 use crate::calls;
 use crate::codec::Entry;
 use crate::making::Making;
-use crate::period::Stage;
+use crate::period::Period;
 use crate::random::Random;
 use crate::trials::any_manner;
 
@@ -35,8 +35,7 @@ impl Maker {
     }
 
     pub fn is_before_notice(&self, number: u32) -> bool {
-        let period = self.aim.book.periods.get(&number);
-        period.is_some_and(|period| matches!(period.stage, Stage::BeforeNotice))
+        self.aim.book.periods.get(&number).is_some_and(Period::is_before_notice)
     }
 
     /// The most that a receipt of a payer can be; 0 where the period is gone.

@@ -1,5 +1,6 @@
 //! A period of the book: its stage, its rows of cents, and what receipts and settlement do to it.
 
+use crate::book::MOST_TOTAL;
 use crate::codec::{AMOUNT, ENERGY, NOTICE, RECEIPT, SETTLE, WASHUP};
 use crate::month::{self, Notice, Sums};
 
@@ -22,6 +23,20 @@ impl Period {
     pub(crate) fn new(n: usize) -> Period {
         let (received, paid) = (vec![0; n], vec![0; n]);
         Period { sums: Sums::new(n), stage: Stage::BeforeNotice, received, paid }
+    }
+
+    pub fn is_before_notice(&self) -> bool {
+        matches!(self.stage, Stage::BeforeNotice)
+    }
+
+    /// What a side has room for; a wrong version's total may be past its bound.
+    pub fn room(&self, side: u8) -> u128 {
+        MOST_TOTAL.saturating_sub(self.sums.total(side))
+    }
+
+    /// Whether so many cents more would pass the bound of a side.
+    pub(crate) fn passes_bound(&self, side: u8, cents: u128) -> bool {
+        self.sums.total(side) + cents > MOST_TOTAL
     }
 
     pub fn held(&self) -> u128 {

@@ -115,7 +115,7 @@ mod tests {
 
     #[test]
     fn revisions_of_every_scale_go_up_and_down_and_nowhere() {
-        for scale in energies::SCALES {
+        for scale in Scale::ALL {
             let mut random = Random::new(8);
             let mut seen = [0; 4];
             for _ in 0..3_000 {

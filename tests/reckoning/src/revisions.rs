@@ -3,7 +3,6 @@
 
 use crate::aim::Aim;
 use crate::codec::Entry;
-use crate::period::Stage;
 use crate::quantities::{self, Revision};
 use crate::washup;
 
@@ -19,8 +18,7 @@ impl Aim {
             return self.proposed(washup::turned(&last));
         }
         let side = self.random.below(2) as u8;
-        let about_bound = self.random.chance(1, 2).then(|| self.about_bound(number, side));
-        let revision = about_bound.flatten().unwrap_or_else(|| self.any_revision());
+        let revision = self.revision_for(number, side);
         let earlier = self.earlier_period(number);
         let entry = self.washup_by(number, earlier, side, revision);
         self.proposed(entry)
@@ -31,8 +29,7 @@ impl Aim {
         let number = self.period_for_washup();
         let side = self.random.below(2) as u8;
         let stands = self.random.chance(1, 4);
-        let about_bound = self.random.chance(1, 2).then(|| self.about_bound(number, side));
-        let revision = about_bound.flatten().unwrap_or_else(|| self.any_revision());
+        let revision = self.revision_for(number, side);
         let earlier = match stands {
             true => self.earlier_period(number),
             false => self.wrong_earlier_period(number),
@@ -56,8 +53,11 @@ impl Aim {
         entry
     }
 
-    fn any_revision(&mut self) -> Revision {
-        quantities::any(&mut self.random, self.manner.scale)
+    /// One about the bound of the side that it lands on, in half of the cases, or any.
+    fn revision_for(&mut self, number: u32, side: u8) -> Revision {
+        let about_bound = self.random.chance(1, 2).then(|| self.about_bound(number, side));
+        let any = || quantities::any(&mut self.random, self.manner.scale);
+        about_bound.flatten().unwrap_or_else(any)
     }
 
     fn washup_by(&mut self, number: u32, earlier: u32, side: u8, revision: Revision) -> Entry {
@@ -68,17 +68,13 @@ impl Aim {
     /// A period before its notice, in half of the cases one with a nearly full side; or any where
     /// there is none.
     fn period_for_washup(&mut self) -> u32 {
-        let takes = |stage: &Stage| matches!(stage, Stage::BeforeNotice);
-        let periods = self.book.periods.iter().filter(|(_, period)| takes(&period.stage));
-        let numbers: Vec<u32> = periods.map(|(&number, _)| number).collect();
         let room = |number| self.room_on(number, 0).min(self.room_on(number, 1));
-        let mut nearly_full = numbers.clone();
+        let mut nearly_full = self.book.before_notice();
         nearly_full.retain(|&number| quantities::in_reach(room(number)));
-        match (nearly_full.is_empty(), numbers.is_empty()) {
-            (false, _) if self.random.chance(1, 2) => self.random.pick(&nearly_full),
-            (_, false) => self.random.pick(&numbers),
-            _ => self.any_period(),
+        if !nearly_full.is_empty() && self.random.chance(1, 2) {
+            return self.random.pick(&nearly_full);
         }
+        self.any_before_notice().unwrap_or_else(|| self.any_period())
     }
 
     /// Up or down by just the room of the side that it lands on, a cent less or more; nothing where

@@ -72,11 +72,7 @@ pub fn trial_of_washups(seed: u64) -> Vec<u8> {
         maker.open_first();
         for _ in 0..MONTHS {
             maker.opened();
-            let periods = maker.aim.book.periods.keys().copied();
-            let numbers: Vec<u32> =
-                periods.filter(|&number| maker.is_before_notice(number)).collect();
-            if !numbers.is_empty() {
-                let number = maker.aim.random.pick(&numbers);
+            if let Some(number) = maker.aim.any_before_notice() {
                 maker.month_of_washups(number);
             }
         }

@@ -36,18 +36,21 @@ fn told(trials: &[Named], right: &[Vec<u8>], wrong: &Wrong) -> Option<String> {
     told.first().map(|first| format!("by {} of {} trials; {first}", told.len(), trials.len()))
 }
 
+/// The trials from seeds, which versions of each request but the first are tried on.
+fn from_seeds() -> impl Iterator<Item = Named> {
+    (0..TRIALS).map(|seed| (format!("trial seed {seed}"), trials::trial(seed)))
+}
+
 /// The trials that wrong versions of 02, b, are tried on.
 fn trials_with_halves() -> Vec<Named> {
     let cases = cases_of_halves::cases().into_iter();
     let cases = cases.map(|case| (format!("trial {}", case.name()), case.trial()));
-    let seeds = (0..TRIALS).map(|seed| (format!("trial seed {seed}"), trials::trial(seed)));
-    cases.chain(seeds).collect()
+    cases.chain(from_seeds()).collect()
 }
 
 /// The trials that wrong versions of 02, c, are tried on.
 fn trials_with_purses() -> Vec<Named> {
-    let seeds = (0..TRIALS).map(|seed| (format!("trial seed {seed}"), trials::trial(seed)));
-    trials_of_purses::every_trial().chain(seeds).collect()
+    trials_of_purses::every_trial().chain(from_seeds()).collect()
 }
 
 /// The trials that wrong versions of 02, e, are tried on, pairs of refusals among them.
@@ -57,8 +60,7 @@ fn trials_with_washups() -> Vec<Named> {
         let name = format!("trial pair {} with {}", pair.earlier, pair.later);
         (name, [pair.both, pair.alone].concat())
     };
-    let seeds = (0..TRIALS).map(|seed| (format!("trial seed {seed}"), trials::trial(seed)));
-    trials_of_washups::every_trial().chain(pairs.map(named)).chain(seeds).collect()
+    trials_of_washups::every_trial().chain(pairs.map(named)).chain(from_seeds()).collect()
 }
 
 /// The feeds that demand 3 is put over: the cases of a kind of feed, and some from seeds, aimed by a
@@ -88,42 +90,41 @@ fn try_versions(report: &mut Report, letter: char, versions: &[Wrong], trials: &
     }
 }
 
+fn versions_of_c() -> Vec<Wrong> {
+    [&versions_of_draws::WRONG[..], &versions_of_purses::WRONG].concat()
+}
+
+fn versions_of_e() -> Vec<Wrong> {
+    [&versions_of_washups::WRONG[..], &versions_of_earlier_periods::WRONG].concat()
+}
+
 /// Tries each wrong version of a request on trials that are made for it.
 pub fn try_all_versions() -> Report {
     let mut report = Report::default();
     let of_groups: Vec<Named> = trials_of_groups::every_trial().collect();
     try_versions(&mut report, 'a', &versions::WRONG, &of_groups);
     try_versions(&mut report, 'b', &versions_of_halves::WRONG, &trials_with_halves());
-    let of_purses = trials_with_purses();
-    let of_c = [&versions_of_draws::WRONG[..], &versions_of_purses::WRONG].concat();
-    try_versions(&mut report, 'c', &of_c, &of_purses);
-    let of_e = [&versions_of_washups::WRONG[..], &versions_of_earlier_periods::WRONG].concat();
-    try_versions(&mut report, 'e', &of_e, &trials_with_washups());
+    try_versions(&mut report, 'c', &versions_of_c(), &trials_with_purses());
+    try_versions(&mut report, 'e', &versions_of_e(), &trials_with_washups());
     report
 }
 
 /// Puts demand 3 over the listings of each version that breaks it.
 pub fn try_demand_3() -> Report {
     let mut report = Report::default();
-    let of_c = [&versions_of_draws::WRONG[..], &versions_of_purses::WRONG].concat();
     let with_purses = feeds_of("purses", trials_of_purses::every_case(), Book::make);
-    put_demand_3(&mut report, 'c', &of_c, |_| with_purses.clone());
-    let of_e = [&versions_of_washups::WRONG[..], &versions_of_earlier_periods::WRONG].concat();
-    // Aimed by the wrong version, whose sides come to be equal, so that its months settle.
-    put_demand_3(&mut report, 'e', &of_e, |wrong| {
-        feeds_of("washups", trials_of_washups::every_case(), wrong.make)
-    });
+    for wrong in versions_of_c().iter().filter(|wrong| wrong.by_demand_3) {
+        put_demand_3(&mut report, 'c', wrong, &with_purses);
+    }
+    for wrong in versions_of_e().iter().filter(|wrong| wrong.by_demand_3) {
+        // Aimed by the wrong version, whose sides come to be equal, so that its months settle.
+        let with_washups = feeds_of("washups", trials_of_washups::every_case(), wrong.make);
+        put_demand_3(&mut report, 'e', wrong, &with_washups);
+    }
     report
 }
 
-fn put_demand_3(
-    report: &mut Report,
-    letter: char,
-    versions: &[Wrong],
-    feeds: impl Fn(&Wrong) -> Vec<Named>,
-) {
-    for wrong in versions.iter().filter(|wrong| wrong.by_demand_3) {
-        let name = format!("version of {letter}, by demand 3: {}", wrong.name);
-        report.take(&name, told_by_demand_3(&feeds(wrong), wrong));
-    }
+fn put_demand_3(report: &mut Report, letter: char, wrong: &Wrong, feeds: &[Named]) {
+    let name = format!("version of {letter}, by demand 3: {}", wrong.name);
+    report.take(&name, told_by_demand_3(feeds, wrong));
 }

@@ -1,9 +1,10 @@
 //! Wrong versions of 02, e: of earlier periods, of the order of refusals, and of the bound that 11
 //! tests. The trials must tell each of them from the right one.
 
-use crate::book::{Answer, Book, MOST_TOTAL};
+use crate::book::{Answer, Book};
 use crate::codec::{Entry, WASHUP};
 use crate::making::Making;
+use crate::period::Period;
 use crate::refusals::*;
 use crate::versions::{applying, with_ways, wrong, Wrong};
 use crate::versions_of_washups::{
@@ -83,7 +84,7 @@ fn passes(book: &Book, entry: &Entry) -> bool {
     let Some(period) = book.periods.get(&entry.period) else {
         return false;
     };
-    added(entry).is_some_and(|to| period.sums.total(to.side) + to.cents > MOST_TOTAL)
+    added(entry).is_some_and(|to| period.passes_bound(to.side, to.cents))
 }
 
 fn after_11(book: &mut Book, entry: &Entry, words: &mut [u64]) -> Answer {
@@ -114,14 +115,14 @@ fn eight_for_the_earlier(book: &mut Book, entry: &Entry, words: &mut [u64]) -> A
 fn nine_for_the_earlier(book: &mut Book, entry: &Entry, words: &mut [u64]) -> Answer {
     refusing(book, entry, words, WRONG_STAGE, |book| {
         let earlier = book.periods.get(&entry.earlier_period);
-        earlier.is_some_and(|earlier| earlier.stage_takes(WASHUP))
+        earlier.is_some_and(Period::is_before_notice)
     })
 }
 
 fn both_sides_tested(book: &mut Book, entry: &Entry, words: &mut [u64]) -> Answer {
     refusing(book, entry, words, TOTAL_PASSES_BOUND, |book| {
-        let sums = &book.periods[&entry.period].sums;
-        added(entry).is_some_and(|to| sums.total(1 - to.side) + to.cents > MOST_TOTAL)
+        let period = &book.periods[&entry.period];
+        added(entry).is_some_and(|to| period.passes_bound(1 - to.side, to.cents))
     })
 }
 

@@ -3,7 +3,6 @@
 use super::rotation::{scale_of, Rotation, NOTICE_DUE};
 use crate::aim::Scale;
 use crate::codec::Entry;
-use crate::period::Stage;
 
 /// The sides of a period are filled to their bound, if at all, in the last entries before its
 /// notice, since nothing goes in after that: one in so many of a month, and at least so many.
@@ -20,7 +19,7 @@ impl Rotation {
         if let Some(number) = filled {
             return Some(self.while_full(number));
         }
-        let number = self.any_at(|stage| matches!(stage, Stage::BeforeNotice))?;
+        let number = self.aim.any_before_notice()?;
         let scale = scale_of(number);
         let early = scale == Scale::Bound && !self.is_to_fill(number);
         self.aim.manner.scale = if early { Scale::Millions } else { scale };
@@ -36,10 +35,8 @@ impl Rotation {
     }
 
     fn period_to_fill(&self) -> Option<u32> {
-        let before_notice = |stage: &Stage| matches!(stage, Stage::BeforeNotice);
-        let periods = self.aim.book.periods.iter();
-        let mut numbers = periods.filter(|(_, period)| before_notice(&period.stage));
-        numbers.find(|(number, _)| self.is_to_fill(**number)).map(|(&number, _)| number)
+        let numbers = self.aim.book.before_notice();
+        numbers.into_iter().find(|&number| self.is_to_fill(number))
     }
 
     /// What fills a side, or comes to sides that are nearly full.

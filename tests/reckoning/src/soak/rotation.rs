@@ -34,7 +34,6 @@ const RECOVERING: u64 = 4;
 /// The first months of so many are calm: every payer pays all it can.
 const ERA: u64 = 16;
 const CALM: u64 = 3;
-const SCALES: [Scale; 4] = [Scale::Few, Scale::Hundreds, Scale::Millions, Scale::Bound];
 
 /// What a feed is made by.
 #[derive(Clone, Copy, Debug)]
@@ -72,7 +71,7 @@ pub struct Rotation {
 
 /// How large the amounts of a period are.
 pub(super) fn scale_of(number: u32) -> Scale {
-    SCALES[number as usize % SCALES.len()]
+    Scale::ALL[number as usize % Scale::ALL.len()]
 }
 
 impl Rotation {
