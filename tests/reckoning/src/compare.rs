@@ -1,6 +1,7 @@
 //! Compares two programs with the reckoning on feeds and trials from fixed seeds.
 
 use crate::cases_of_halves;
+use crate::counts_of_washups::Washups;
 use crate::draws::Draws;
 use crate::feeds::{self, KINDS};
 use crate::halves::Halves;
@@ -14,7 +15,6 @@ use crate::trials::{self, TRIALS, TRIALS_OF_ROUNDS};
 use crate::trials_of_groups::{self, Named};
 use crate::trials_of_purses;
 use crate::trials_of_washups;
-use crate::washups::Washups;
 
 /// Differences printed in full; the others are only counted.
 const SHOWN: u64 = 10;
@@ -235,6 +235,7 @@ mod tests {
     use super::*;
     use crate::book::Book;
     use crate::codec::LAST_KIND;
+    use crate::counts_of_washups::Sight;
     use crate::trial;
 
     /// Just what a comparison must have covered.
@@ -289,7 +290,7 @@ mod tests {
         assert!(without(|less| less.tried_halves.up_past_bound[0] = 0));
         assert!(without(|less| less.listed_draws.counts[0] = 0));
         assert!(without(|less| less.tried_draws.counts[20] = 0));
-        assert!(without(|less| less.listed_washups.counts[0][1] = 0));
-        assert!(without(|less| less.tried_washups.counts[30][0] = 0));
+        assert!(without(|less| less.listed_washups.by_sight[Sight::Up as usize][1] = 0));
+        assert!(without(|less| less.tried_washups.by_sight[Sight::With11 as usize][0] = 0));
     }
 }

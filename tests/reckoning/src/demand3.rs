@@ -6,6 +6,7 @@ use crate::book::{cents, tier};
 use crate::codec::{
     self, Entry, Field, AMOUNT, ENERGY, NOTICE, OPEN, PURSE, RECEIPT, SETTLE, WASHUP,
 };
+use crate::counts_of_washups::Washups;
 use crate::draws::Draws;
 use crate::halves::{Half, Halves};
 use crate::lines::{self, Line};
@@ -13,7 +14,6 @@ use crate::making::Making;
 use crate::month;
 use crate::refusals::*;
 use crate::washup::{self, Addition};
-use crate::washups::Washups;
 use std::collections::BTreeMap;
 
 /// What a listing came to.

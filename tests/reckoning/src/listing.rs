@@ -2,10 +2,10 @@
 
 use crate::book::{Book, Make};
 use crate::codec::{self, Entry, LONGEST_ENTRY};
+use crate::counts_of_washups::Washups;
 use crate::draws::Draws;
 use crate::making::Making;
 use crate::refusals::ACCEPTED;
-use crate::washups::Washups;
 use crate::watch_of_purses;
 use crate::watch_of_washups;
 use std::io::{self, Read, Write};
@@ -139,7 +139,7 @@ fn list_by(
 pub fn lines_by(make: Make, feed: &[u8]) -> (Vec<u8>, Seen) {
     let (mut out, mut watch) = (Vec::new(), Watch::default());
     list_by(make, feed, &mut out, Some(&mut watch)).expect("memory takes every byte");
-    (out, Seen { draws: watch.purses.draws, washups: watch.washups.washups })
+    (out, Seen { draws: watch.purses.draws, washups: watch.washups.counts })
 }
 
 /// The listing of a feed that is in memory.

@@ -2,12 +2,12 @@
 
 use crate::book::{Book, Make};
 use crate::codec::{self, Entry, Field};
+use crate::counts_of_washups::Washups;
 use crate::draws::Draws;
 use crate::halves::{Half, Halves};
 use crate::making::Making;
 use crate::reach::{Reach, Watch};
 use crate::refusals::ACCEPTED;
-use crate::washups::Washups;
 use crate::watch_of_purses;
 use crate::watch_of_washups;
 use std::io::{self, Read, Write};
@@ -188,7 +188,7 @@ pub fn lines_by(make: Make, calls: &[u8]) -> (Vec<u8>, Seen) {
     let (mut trial, mut out) = (Trial::new(make), Vec::new());
     trial.run(calls, &mut out).expect("memory takes every byte");
     let (reach, draws) = (trial.watch.reach, trial.purses.draws);
-    (out, Seen { reach, halves: trial.halves, draws, washups: trial.washups.washups })
+    (out, Seen { reach, halves: trial.halves, draws, washups: trial.washups.counts })
 }
 
 /// The lines for calls that are in memory.

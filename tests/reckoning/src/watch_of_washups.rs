@@ -1,152 +1,17 @@
 //! Watches the washups (02, e) that come to a book, and what is to be seen of them.
 
-use crate::book::{Book, MOST_TOTAL};
-use crate::codec::{Entry, WASHUP};
-use crate::energies;
-use crate::month;
+use crate::book::Book;
+use crate::codec::Entry;
+use crate::counts_of_washups::{Sight, Washups};
 use crate::refusals::{ACCEPTED, EARLIER_PERIOD_OUTSIDE, TOTAL_PASSES_BOUND};
+use crate::sights_of_washups::Found;
 use crate::washup;
-use crate::washups::{Sight, Washups};
 use std::cmp::Ordering;
-
-/// A washup for a period in the book, whose sums it is not yet in.
-#[derive(Clone, Debug)]
-struct Found {
-    entry: Entry,
-    /// The energy amounts of the old quantity and of the new one.
-    old: u128,
-    new: u128,
-    /// What the stated side and the other one have room for.
-    stated_room: u128,
-    other_room: u128,
-    /// Whether the earlier period is in the book.
-    in_book: bool,
-}
-
-impl Found {
-    fn in_book(book: &Book, entry: &Entry) -> Option<Found> {
-        if entry.kind != WASHUP || !entry.in_values() {
-            return None;
-        }
-        let sums = &book.periods.get(&entry.period)?.sums;
-        // In a wrong version a total may be past its bound.
-        let room = |side| MOST_TOTAL.saturating_sub(sums.total(side));
-        let (old, new) = washup::amounts(entry);
-        let (stated_room, other_room) = (room(entry.side), room(1 - entry.side));
-        let in_book = book.periods.contains_key(&entry.earlier_period);
-        Some(Found { entry: *entry, old, new, stated_room, other_room, in_book })
-    }
-
-    fn way(&self) -> Ordering {
-        self.new.cmp(&self.old)
-    }
-
-    fn cents(&self) -> u128 {
-        self.new.abs_diff(self.old)
-    }
-
-    /// The room of the side that it lands on, and of the one that it does not.
-    fn rooms(&self) -> (u128, u128) {
-        match self.way() {
-            Ordering::Less => (self.other_room, self.stated_room),
-            _ => (self.stated_room, self.other_room),
-        }
-    }
-
-    /// One sight where it goes up, another where it goes down, and none where it adds nothing.
-    fn by_way(&self, up: Sight, down: Sight) -> Option<Sight> {
-        match self.way() {
-            Ordering::Greater => Some(up),
-            Ordering::Less => Some(down),
-            Ordering::Equal => None,
-        }
-    }
-
-    /// What there is to see of its amounts, where it is accepted.
-    fn amounts(&self) -> Vec<Sight> {
-        let Entry { old_quantity, quantity, price, .. } = self.entry;
-        let same = match old_quantity == quantity {
-            true => Sight::SameQuantity,
-            false => Sight::SameCents,
-        };
-        let mut seen = vec![self.by_way(Sight::Up, Sight::Down).unwrap_or(same)];
-        let once = month::energy_cents(quantity.abs_diff(old_quantity), price);
-        seen.extend((once != self.cents()).then_some(Sight::OtherOnce));
-        let halves = [
-            (old_quantity, self.old, Sight::OldHalfDown, Sight::OldHalfUp),
-            (quantity, self.new, Sight::NewHalfDown, Sight::NewHalfUp),
-        ];
-        for (quantity, cents, down, up) in halves {
-            if energies::is_half(quantity, price) {
-                let exact = u128::from(quantity) * u128::from(price) * 115;
-                seen.push(if cents * 100_000 > exact { up } else { down });
-            }
-        }
-        seen
-    }
-
-    /// What there is to see of its earlier period, where it is accepted.
-    fn earlier_period(&self) -> Vec<Sight> {
-        let Entry { period, earlier_period, .. } = self.entry;
-        let below = washup::below(period, earlier_period);
-        let sights = [
-            (below == 1, Sight::OneBelow),
-            (below == 24, Sight::TwentyFourBelow),
-            (earlier_period == 0, Sight::NumberZero),
-            (self.in_book, Sight::InBook),
-            (!self.in_book, Sight::NotInBook),
-            (period > u32::MAX - 24, Sight::LastNumbers),
-        ];
-        sights.into_iter().filter_map(|(seen, sight)| seen.then_some(sight)).collect()
-    }
-
-    /// What there is to see of the bounds, where it is accepted.
-    fn accepted_at_bounds(&self) -> Vec<Sight> {
-        let (lands, other) = self.rooms();
-        let to_bound = self.by_way(Sight::UpToBound, Sight::DownToBound);
-        let full = self.by_way(Sight::UpOtherFull, Sight::DownStatedFull);
-        let nothing_on_full = self.way() == Ordering::Equal && self.stated_room == 0;
-        let larger = self.old.max(self.new) > lands && self.way() != Ordering::Equal;
-        [
-            to_bound.filter(|_| self.cents() == lands),
-            full.filter(|_| other == 0),
-            nothing_on_full.then_some(Sight::NothingOnFull),
-            larger.then_some(Sight::LargerPasses),
-        ]
-        .into_iter()
-        .flatten()
-        .collect()
-    }
-
-    /// What there is to see where it is refused with 11.
-    fn refused_with_11(&self) -> Vec<Sight> {
-        let (lands, other) = self.rooms();
-        let past = self.by_way(Sight::UpPastBound, Sight::DownPastBound);
-        let has_room = self.by_way(Sight::UpOtherHasRoom, Sight::DownStatedHasRoom);
-        let past = past.filter(|_| self.cents() == lands + 1);
-        past.into_iter().chain(has_room.filter(|_| self.cents() <= other)).collect()
-    }
-
-    /// What there is to see where it is refused with 16.
-    fn refused_with_16(&self) -> Vec<Sight> {
-        let Entry { period, earlier_period, .. } = self.entry;
-        let below = washup::below(period, earlier_period);
-        let wraps = (1..=24).contains(&period.wrapping_sub(earlier_period));
-        let sights = [
-            (below == 0, Sight::ThePeriodItself),
-            ((-24..=-1).contains(&below), Sight::Above),
-            (below == 25, Sight::TwentyFiveBelow),
-            (wraps, Sight::Wrapping),
-            (self.cents() > self.rooms().0, Sight::With11),
-        ];
-        sights.into_iter().filter_map(|(seen, sight)| seen.then_some(sight)).collect()
-    }
-}
 
 /// Watches the entries that come to a book, and its answers.
 #[derive(Clone, Debug, Default)]
 pub struct Watch {
-    pub washups: Washups,
+    pub counts: Washups,
     /// The washup that is being applied.
     found: Option<Found>,
     /// The washup that was accepted last.
@@ -175,7 +40,7 @@ impl Watch {
             EARLIER_PERIOD_OUTSIDE => found.refused_with_16(),
             _ => vec![],
         };
-        seen.into_iter().for_each(|sight| self.washups.see(sight, found.entry.side));
+        seen.into_iter().for_each(|sight| self.counts.see(sight, found.entry.side));
     }
 
     fn accepted(&mut self, found: &Found) -> Vec<Sight> {
@@ -210,7 +75,7 @@ mod tests {
     const THERE_AND_BACK: Seen = &[
         (Sight::Up, [1, 1]),
         (Sight::Down, [1, 1]),
-        (Sight::OtherOnce, [2, 2]),
+        (Sight::OtherIfRoundedOnce, [2, 2]),
         (Sight::OldHalfDown, [1, 1]),
         (Sight::OldHalfUp, [1, 1]),
         (Sight::NewHalfDown, [1, 1]),
@@ -224,7 +89,7 @@ mod tests {
         (Sight::Up, [2, 0]),
         (Sight::Down, [1, 1]),
         (Sight::SameCents, [0, 1]),
-        (Sight::OtherOnce, [1, 0]),
+        (Sight::OtherIfRoundedOnce, [1, 0]),
         (Sight::OldHalfUp, [1, 0]),
         (Sight::NewHalfDown, [1, 0]),
         (Sight::OneBelow, [0, 1]),
@@ -271,7 +136,7 @@ mod tests {
         for (name, seen) in SEEN {
             let case = cases.iter().find(|case| case.name == name).expect("a case of that name");
             let mut expected = Washups::default();
-            seen.iter().for_each(|&(sight, counts)| expected.counts[sight as usize] = counts);
+            seen.iter().for_each(|&(sight, counts)| expected.by_sight[sight as usize] = counts);
             assert_eq!(washups_of(case), expected, "{name}");
             assert_eq!(listing::lines_by(Book::make, &case.feed()).1.washups, expected, "{name}");
         }

@@ -12,9 +12,9 @@ pub use rotation::Plan;
 
 use crate::book::{MOST_PARTICIPANTS, MOST_PERIODS};
 use crate::compare::print_answers;
+use crate::counts_of_washups;
 use crate::draws::Sight;
 use crate::refusals::{EARLIER_PERIOD_OUTSIDE, NOT_ABOVE_HIGHEST, NO_PARTICIPANT};
-use crate::washups;
 use memory::Memory;
 use rotation::{Reach, Rotation};
 use std::process::{Child, Command, Stdio};
@@ -29,7 +29,7 @@ const SEED: u64 = 400;
 /// with arrears; and a payer mostly pays all of a month by receipts, or nothing.
 const NOT_REQUIRED: [Sight; 2] = [Sight::LaterArrears, Sight::BesideReceipts];
 /// Not required of washups: a soak's months do not come to the last period numbers.
-const WASHUPS_NOT_REQUIRED: [washups::Sight; 1] = [washups::Sight::LastNumbers];
+const WASHUPS_NOT_REQUIRED: [counts_of_washups::Sight; 1] = [counts_of_washups::Sight::LastNumbers];
 /// A program that prints nothing for so long is ended.
 const LONGEST: Duration = Duration::from_secs(60);
 
@@ -119,7 +119,7 @@ fn covered(plan: &Plan, reach: &Reach) -> bool {
         && count.late_receipts > 0
         && count.halves.both_ways()
         && reach.purses.draws.covered_but_for(&NOT_REQUIRED)
-        && reach.washups.washups.covered_but_for(&WASHUPS_NOT_REQUIRED);
+        && reach.washups.counts.covered_but_for(&WASHUPS_NOT_REQUIRED);
     if !enough {
         println!("too little was compared");
     }
@@ -141,7 +141,7 @@ fn print_reach(reach: &Reach) {
     println!("late receipts: {}", count.late_receipts);
     count.halves.print("the feed");
     reach.purses.draws.print("the feed");
-    reach.washups.washups.print("the feed");
+    reach.washups.counts.print("the feed");
 }
 
 fn judge_memory(memory: &Memory) -> bool {

@@ -3,9 +3,9 @@
 use super::rotation::{Plan, Reach, Rotation};
 use super::streams::{hold, Compared, Watch};
 use super::{covered, NOT_REQUIRED, SEED, WASHUPS_NOT_REQUIRED};
+use crate::counts_of_washups;
 use crate::draws::Sight;
 use crate::listing;
-use crate::washups;
 use std::io::{self, BufWriter, Write};
 use std::thread;
 
@@ -109,10 +109,11 @@ fn a_feed_in_which_something_of_purses_is_never_seen_covers_too_little() {
 fn a_feed_in_which_something_of_washups_is_never_seen_covers_too_little() {
     let mut rotation = Rotation::new(PLAN, SEED);
     rotation.by_ref().for_each(drop);
-    for (sight, side) in washups::Sight::ALL.into_iter().flat_map(|sight| [(sight, 0), (sight, 1)])
+    for (sight, side) in
+        counts_of_washups::Sight::ALL.into_iter().flat_map(|sight| [(sight, 0), (sight, 1)])
     {
         let mut less = rotation.reach.clone();
-        less.washups.washups.counts[sight as usize][side] = 0;
+        less.washups.counts.by_sight[sight as usize][side] = 0;
         let required = !WASHUPS_NOT_REQUIRED.contains(&sight);
         assert_eq!(covered(&PLAN, &less), !required, "{}", sight.name());
     }

@@ -11,7 +11,7 @@ pub enum Sight {
     SameQuantity,
     SameCents,
     /// The energy amount of the difference of the quantities would be other cents.
-    OtherOnce,
+    OtherIfRoundedOnce,
     /// The amount of the old or the new quantity was an exact half, and went down or up.
     OldHalfDown,
     OldHalfUp,
@@ -62,7 +62,7 @@ impl Sight {
         Down,
         SameQuantity,
         SameCents,
-        OtherOnce,
+        OtherIfRoundedOnce,
         OldHalfDown,
         OldHalfUp,
         NewHalfDown,
@@ -97,7 +97,7 @@ impl Sight {
             Down => "down",
             SameQuantity => "the same quantity",
             SameCents => "the same cents",
-            OtherOnce => "other cents if rounded once",
+            OtherIfRoundedOnce => "other cents if rounded once",
             OldHalfDown => "old half down",
             OldHalfUp => "old half up",
             NewHalfDown => "new half down",
@@ -134,12 +134,12 @@ type BySide = [u64; 2];
 /// How often each was seen.
 #[derive(Clone, Debug, Default, PartialEq, Eq)]
 pub struct Washups {
-    pub counts: [BySide; Sight::ALL.len()],
+    pub by_sight: [BySide; Sight::ALL.len()],
 }
 
 impl Washups {
     pub fn of(&self, sight: Sight) -> BySide {
-        self.counts[sight as usize]
+        self.by_sight[sight as usize]
     }
 
     /// How many were accepted and added cents.
@@ -148,11 +148,11 @@ impl Washups {
     }
 
     pub fn see(&mut self, sight: Sight, side: u8) {
-        self.counts[sight as usize][usize::from(side)] += 1;
+        self.by_sight[sight as usize][usize::from(side)] += 1;
     }
 
     pub fn add(&mut self, other: &Washups) {
-        for (to, from) in self.counts.iter_mut().zip(other.counts) {
+        for (to, from) in self.by_sight.iter_mut().zip(other.by_sight) {
             to.iter_mut().zip(from).for_each(|(to, from)| *to += from);
         }
     }
@@ -189,12 +189,12 @@ mod tests {
 
     #[test]
     fn each_must_be_seen_on_each_side() {
-        let all = Washups { counts: [[1; 2]; Sight::ALL.len()] };
+        let all = Washups { by_sight: [[1; 2]; Sight::ALL.len()] };
         assert!(all.covered());
         for sight in Sight::ALL {
             for side in [0, 1] {
                 let mut less = all.clone();
-                less.counts[sight as usize][usize::from(side)] = 0;
+                less.by_sight[sight as usize][usize::from(side)] = 0;
                 assert!(!less.covered(), "{}", sight.name());
                 assert!(less.covered_but_for(&[sight]));
                 less.see(sight, side);
