@@ -85,3 +85,5 @@ mod examples_of_washups;
 mod tests_of_book;
 #[cfg(test)]
 mod tests_of_codec;
+#[cfg(test)]
+mod tests_of_pairs;

@@ -68,7 +68,7 @@ pub(crate) const GONE: u32 = 1;
 pub(crate) const NEVER: u32 = 77;
 
 /// The book that the pairs are built on, with n = 3.
-fn scene() -> Vec<u8> {
+pub(crate) fn scene() -> Vec<u8> {
     let mut entries = vec![Entry::open(GONE), Entry::notice(GONE), Entry::settle(GONE)];
     entries.extend(calls::month_a_to_settle(SETTLED));
     entries.extend(calls::month_a_to_notice(NOTICED));
@@ -84,7 +84,7 @@ fn scene() -> Vec<u8> {
 }
 
 /// The same with twelve periods in the book; the highest is 13.
-fn scene_of_twelve() -> Vec<u8> {
+pub(crate) fn scene_of_twelve() -> Vec<u8> {
     let mut calls = scene();
     for period in SETTLED_LATER + 1..=SETTLED_LATER + 7 {
         calls.extend(calls::apply(&Entry::open(period), N));
@@ -262,44 +262,4 @@ pub fn pairs() -> Vec<Pair> {
     pairs.extend(pairs_of_washups::pairs(&scene));
     pairs.extend(makings::pairs_of_making());
     pairs
-}
-
-#[cfg(test)]
-mod tests {
-    use super::*;
-    use crate::trial;
-    use std::collections::BTreeSet;
-
-    fn last_answer(calls: &[u8]) -> u8 {
-        let text = String::from_utf8(trial::expected(calls)).unwrap();
-        let line = text.lines().last().unwrap();
-        line.split(' ').nth(1).unwrap().parse().unwrap()
-    }
-
-    #[test]
-    fn the_earlier_wins_and_the_later_holds() {
-        for pair in pairs() {
-            let name = format!("{} of {} with {}", pair.of, pair.earlier, pair.later);
-            assert_eq!(last_answer(&pair.both), pair.earlier, "{name}: both");
-            assert_eq!(last_answer(&pair.alone), pair.later, "{name}: the later alone");
-        }
-    }
-
-    #[test]
-    fn the_list_is_what_is_covered() {
-        let listed: BTreeSet<(u8, u8)> = COVERED
-            .iter()
-            .flat_map(|&(earlier, later)| later.iter().map(move |&later| (earlier, later)))
-            .collect();
-        let built = pairs().iter().map(|pair| (pair.earlier, pair.later)).collect();
-        assert_eq!(listed, built);
-    }
-
-    #[test]
-    fn the_scene_is_accepted() {
-        for calls in [scene(), scene_of_twelve()] {
-            let text = String::from_utf8(trial::expected(&calls)).unwrap();
-            assert!(text.lines().all(|line| line.split(' ').nth(1) == Some("0")));
-        }
-    }
 }
