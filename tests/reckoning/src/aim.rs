@@ -120,7 +120,7 @@ impl Aim {
             self.closing.insert(number);
             return self.close(number);
         }
-        self.energy_or_amount(number)
+        self.energy_washup_or_amount(number)
     }
 
     /// What a side of a period has room for.
@@ -129,10 +129,15 @@ impl Aim {
     }
 
     /// Energy, a washup or an amount for a period before its notice.
-    pub fn energy_or_amount(&mut self, number: u32) -> Entry {
-        if self.random.chance(self.manner.washups, 100) {
-            return self.washup(number);
+    pub fn energy_washup_or_amount(&mut self, number: u32) -> Entry {
+        match self.random.chance(self.manner.washups, 100) {
+            true => self.washup(number),
+            false => self.energy_or_amount(number),
         }
+    }
+
+    /// Energy or an amount for a period before its notice.
+    pub fn energy_or_amount(&mut self, number: u32) -> Entry {
         let side = self.random.below(2) as u8;
         let room = self.room_on(number, side);
         let half = energies::half_for(&mut self.random, room.into());

@@ -65,10 +65,10 @@ impl Maker {
         room.then_some(opening.period)
     }
 
-    /// Energy and amounts of a period, and its notice.
+    /// Energy, washups and amounts of a period, and its notice.
     pub fn notice(&mut self, number: u32) {
         for _ in 0..self.aim.book.n + 3 {
-            let entry = self.aim.energy_or_amount(number);
+            let entry = self.aim.energy_washup_or_amount(number);
             self.apply(entry);
         }
         while self.is_before_notice(number) {

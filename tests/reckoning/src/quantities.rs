@@ -12,6 +12,8 @@ const MOST_AIMED: u64 = 9_200_000;
 const CENTS_OF_A_KWH: u64 = 11_500;
 /// So many kWh at a price and at the next one are less than a cent apart.
 const MOST_STEP: u64 = 800;
+/// kWh × price up to this is less than half a cent; 434.8 would be one.
+const MOST_OF_NO_CENTS: u64 = 434;
 /// How often quantities are drawn anew when their cents are others.
 const TRIES: usize = 20;
 
@@ -94,7 +96,7 @@ fn drawn_for(random: &mut Random, cents: u64) -> Revision {
     let step = random.pick(&[least, step, step]);
     // step × price × 23 / 20,000 is about the cents.
     let price = match cents {
-        0 => random.between(0, 430 / step),
+        0 => random.between(0, MOST_OF_NO_CENTS / step),
         _ => random.near((cents * 20_000 / 23 + step / 2) / step),
     };
     let room = u64::from(MOST_QUANTITY) - step;

@@ -8,13 +8,14 @@ use crate::codec::Entry;
 /// notice, since nothing goes in after that: one in so many of a month, and at least so many.
 const FULL_PART: u64 = 50;
 const FULL_LEAST: u64 = 40;
-/// So many of 100 proposals for a period before its notice are washups, and while it is filled.
+/// So many of 100 proposals for a period before its notice are washups; one of so many while it is
+/// filled, where the proposal is not to fill a side.
 pub(super) const WASHUPS: u64 = 10;
-const WASHUPS_WHILE_FULL: u64 = 50;
+const WASHUP_WHILE_FULL: u64 = 2;
 
 impl Rotation {
     /// Energy, a washup or an amount, where a period is before its notice.
-    pub(super) fn energy_or_amount(&mut self) -> Option<Entry> {
+    pub(super) fn energy_washup_or_amount(&mut self) -> Option<Entry> {
         let filled = self.period_to_fill().filter(|_| self.aim.random.chance(1, 2));
         if let Some(number) = filled {
             return Some(self.while_full(number));
@@ -23,7 +24,7 @@ impl Rotation {
         let scale = scale_of(number);
         let early = scale == Scale::Bound && !self.is_to_fill(number);
         self.aim.manner.scale = if early { Scale::Millions } else { scale };
-        Some(self.aim.energy_or_amount(number))
+        Some(self.aim.energy_washup_or_amount(number))
     }
 
     /// Whether the sides of a period before its notice are filled now.
@@ -44,11 +45,9 @@ impl Rotation {
         let side = self.aim.random.below(2) as u8;
         let filling = self.aim.random.chance(1, 4).then(|| self.aim.filling(number, side));
         self.aim.manner.scale = Scale::Bound;
-        filling.flatten().unwrap_or_else(|| {
-            self.aim.manner.washups = WASHUPS_WHILE_FULL;
-            let entry = self.aim.energy_or_amount(number);
-            self.aim.manner.washups = WASHUPS;
-            entry
+        filling.flatten().unwrap_or_else(|| match self.aim.random.chance(1, WASHUP_WHILE_FULL) {
+            true => self.aim.washup(number),
+            false => self.aim.energy_or_amount(number),
         })
     }
 }

@@ -180,7 +180,7 @@ impl Rotation {
         } else {
             None
         };
-        money.or_else(|| self.energy_or_amount())
+        money.or_else(|| self.energy_washup_or_amount())
     }
 
     /// A period in the book at a stage.
