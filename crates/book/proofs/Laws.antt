@@ -3,9 +3,10 @@
 -- reading and writing undo each other, and each answer has a number of its own
 pub use Rattle.book.proofs.layouts.RoundTrips.{written-then-read, read-then-written}
 pub use Rattle.book.proofs.layouts.Outcomes.{read-one-to-one, write-one-to-one, number-one-to-one}
--- no kind passes by the checks; every book that is handed back is valid; refusals; rounds
+-- no kind passes by the checks; every book that is handed back is valid, and there is a place for each participant; refusals; rounds
 pub use Rattle.book.proofs.rules.KindLaws.{every-kind}
 pub use Rattle.book.proofs.rules.ValidLaws.{stays-valid, refusal-changes-nothing, rounds-of-settlements}
+pub use Rattle.book.proofs.rules.LimitLaws.{many-places}
 -- washups
 pub use Rattle.book.proofs.rules.WashupLaws.{there-and-back, nothing-added}
 -- what a book is made with

@@ -3,6 +3,7 @@ pub mod KindLaws
 pub mod AdditionLaws
 pub mod CellLaws
 pub mod ListLaws
+pub mod LimitLaws
 pub mod Passing
 pub mod StepLaws
 pub mod MakingLaws

@@ -12,6 +12,7 @@ mod entries;
 mod feed;
 mod fields;
 mod kinds;
+mod limits;
 mod lines;
 mod makings;
 mod periods;
@@ -33,6 +34,9 @@ pub use feed::Feed;
 pub use feed::feed_at;
 pub use feed::next_entry;
 pub use feed::read_next;
+pub use limits::Limits;
+pub use limits::demonstration;
+pub use limits::market;
 pub use lines::LINE;
 pub use makings::Made;
 pub use makings::Making;
@@ -48,7 +52,7 @@ pub use writer::write_entry;
 // A side is 0, owing by a participant, or 1, owing to it.
 pub const SIDES: usize = 2;
 
-// The most periods in a book.
+// The places that a book has for periods.
 pub const PERIODS: usize = 12;
 
 pub enum Stage {
@@ -72,11 +76,12 @@ pub struct Period {
     arrears: Row,
 }
 
-// A book of n participants: their groups and reserves, the highest period ever opened, the cents held, its periods in the
-// first `count` places, oldest first, and each participant's purse.
+// A book of n participants: their groups and reserves, its limits, the highest period ever opened, the cents held, its periods
+// in the first `count` places, oldest first, and each participant's purse.
 pub struct Book {
     n: usize,
     grouping: Grouping,
+    limits: Limits,
     highest: u32,
     count: usize,
     held: u64,

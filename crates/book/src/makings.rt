@@ -5,11 +5,13 @@ ghost use Rattle.exact.specs.Rows.{places};
 ghost use Rattle.book.specs.Checks.{refusal};
 ghost use Rattle.book.specs.rules.Answers.{numberOf};
 ghost use Rattle.book.specs.rules.State.{pack};
-ghost use Rattle.book.specs.rules.Makings.{made, makingChecks, groupingOf, emptyState, separate};
+ghost use Rattle.book.specs.rules.Makings.{made, makingChecks, groupingOf, kept, noMaking, emptyState, separate};
 use crate::Book;
 use crate::PERIODS;
 use crate::answers::Answer;
 use crate::answers::is_accepted;
+use crate::limits::Limits;
+use crate::limits::is_within;
 use crate::periods::fresh_period;
 use exact::PLACES;
 use exact::put_cells;
@@ -17,10 +19,12 @@ use settlement::GROUPS;
 use settlement::Grouping;
 use settlement::is_grouping_allowed;
 
-// The number of participants, and their groups with the groups' reserves. Group numbers from n on are not looked at.
+// The number of participants, their groups with the groups' reserves, and the limits of the book. Group numbers from n on are
+// not looked at.
 pub struct Making {
     pub n: usize,
     pub grouping: Grouping,
+    pub limits: Limits,
 }
 
 // A book that was made, or refused.
@@ -30,8 +34,8 @@ pub struct Made {
 }
 
 // Each participant in a group of its own, and no reserves.
-pub fn separate(n: usize) -> Making
-    ensures { λ r. ⌜ r ≡ separate n ⌝ }
+pub fn separate(n: usize, limits: Limits) -> Making
+    ensures { λ r. ⌜ r ≡ separate n limits ⌝ }
 {
     let mut groups = [0u64; PLACES];
     for i in 0..PLACES {
@@ -44,6 +48,7 @@ pub fn separate(n: usize) -> Making
     Making {
         n: n,
         grouping: grouping,
+        limits: limits,
     }
 }
 
@@ -51,10 +56,13 @@ pub fn separate(n: usize) -> Making
 fn making_answer(m: Making) -> Answer
     ensures { λ r. ⌜ numberOf r ≡ refusal (makingChecks m) ⌝ }
 {
-    if m.n == 0 {
+    if !is_within(m.limits.participants, PLACES) {
         return Answer::NoParticipants;
     }
-    if PLACES < m.n {
+    if !is_within(m.limits.periods, PERIODS) {
+        return Answer::NoParticipants;
+    }
+    if !is_within(m.n, m.limits.participants) {
         return Answer::NoParticipants;
     }
     let grouping = m.grouping;
@@ -65,13 +73,16 @@ fn making_answer(m: Making) -> Answer
 }
 
 // A book without periods, its purses empty.
-fn empty_book(n: usize, grouping: Grouping) -> Book
-    ensures { λ r. ⌜ r ≡ pack (emptyState n grouping) ⌝ }
+fn empty_book(m: Making) -> Book
+    ensures { λ r. ⌜ r ≡ pack (emptyState m) ⌝ }
 {
     let free = fresh_period(0);
+    let grouping = m.grouping;
+    let limits = m.limits;
     Book {
-        n: n,
+        n: m.n,
         grouping: grouping,
+        limits: limits,
         highest: 0,
         count: 0,
         held: 0,
@@ -96,23 +107,51 @@ fn grouping_of(m: Making) -> Grouping
     }
 }
 
-// A book for n participants in their groups, or one without participants where that is refused.
+// What the book keeps of its making.
+fn kept(m: Making) -> Making
+    requires { ⌜ m .n ≤ places ⌝ }
+    ensures { λ r. ⌜ r ≡ kept m ⌝ }
+{
+    let limits = m.limits;
+    Making {
+        n: m.n,
+        grouping: grouping_of(m),
+        limits: limits,
+    }
+}
+
+// What a refused book has: no participants, and no room for any.
+fn no_making() -> Making
+    ensures { λ r. ⌜ r ≡ noMaking ⌝ }
+{
+    let none = Grouping {
+        groups: [0; PLACES],
+        reserves: [0; GROUPS],
+    };
+    let limits = Limits {
+        participants: 0,
+        periods: 0,
+    };
+    Making {
+        n: 0,
+        grouping: none,
+        limits: limits,
+    }
+}
+
+// A book for n participants in their groups, of these limits, or one without participants where that is refused.
 pub fn new(m: Making) -> Made
     ensures { λ r. ⌜ (numberOf (r .answer) ≡ made m .answer) × (r .book ≡ pack (made m .state)) ⌝ }
 {
     let answer = making_answer(m);
     if !is_accepted(answer) {
-        let none = Grouping {
-            groups: [0; PLACES],
-            reserves: [0; GROUPS],
-        };
-        let b = empty_book(0, none);
+        let b = empty_book(no_making());
         return Made {
             answer: answer,
             book: b,
         };
     }
-    let b = empty_book(m.n, grouping_of(m));
+    let b = empty_book(kept(m));
     Made {
         answer: answer,
         book: b,

@@ -4,7 +4,8 @@ ghost use Prim.Native.Nat.{_<_, min};
 ghost use mathlib.Core.List.{[], _∷_};
 ghost use lib.ListN.{length};
 ghost use Rattle.exact.specs.Rows.{places};
-ghost use Rattle.book.specs.rules.State.{view, pack, find, heldIn, heldBy, earlierArrears, removed, added, centsHeld, mostPeriods};
+ghost use Rattle.book.specs.rules.Limits.{periodPlaces};
+ghost use Rattle.book.specs.rules.State.{view, pack, find, heldIn, heldBy, earlierArrears, removed, added, centsHeld};
 ghost use Rattle.book.specs.rules.Valid.{Valid};
 use crate::Book;
 use crate::PERIODS;
@@ -50,7 +51,7 @@ pub fn has_earlier_arrears(b: Book, i: usize, number: u32) -> bool
 
 // One more period, the last, of the highest number.
 pub fn with_period(b: Book, p: Period) -> Book
-    requires { ⌜ Valid b × (length (view b .periods) < mostPeriods) × (heldIn (b .n) (p ∷ []) ≡ 0) ⌝ }
+    requires { ⌜ Valid b × (length (view b .periods) < periodPlaces) × (heldIn (b .n) (p ∷ []) ≡ 0) ⌝ }
     ensures { λ r. ⌜ r ≡ pack (added (view b) p) ⌝ }
 {
     let at = b.count;
@@ -75,10 +76,12 @@ pub fn without_period(b: Book, j: usize, held: u64) -> Book
     let blank = fresh_period(0);
     ps[last] = blank;
     let grouping = b.grouping;
+    let limits = b.limits;
     let purses = b.purses;
     Book {
         n: b.n,
         grouping: grouping,
+        limits: limits,
         highest: b.highest,
         count: last,
         held: held,

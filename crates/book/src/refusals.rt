@@ -11,7 +11,6 @@ ghost use Rattle.book.specs.rules.Refusals.{receivable, sideChecks, open
 ghost use Rattle.book.specs.rules.Valid.{Sound, Valid};
 ghost use Rattle.book.specs.rules.Answers.{numberOf};
 use crate::Book;
-use crate::PERIODS;
 use crate::Period;
 use crate::Stage;
 use crate::answers::Answer;
@@ -60,7 +59,7 @@ pub fn opening_answer(b: Book, k: u32) -> Answer
     if k <= b.highest {
         return Answer::NotAbove;
     }
-    if PERIODS <= b.count {
+    if b.limits.periods <= b.count {
         return Answer::Full;
     }
     Answer::Accepted

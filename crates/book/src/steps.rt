@@ -7,7 +7,7 @@ ghost use Rattle.exact.specs.Rows.{places};
 ghost use Rattle.book.specs.layouts.Allowed.{allowed};
 ghost use Rattle.book.specs.rules.Kinds.{isOpen, isPurse};
 ghost use Rattle.book.specs.rules.Periods.{fresh, zeros};
-ghost use Rattle.book.specs.rules.State.{view, pack, added, mostPeriods};
+ghost use Rattle.book.specs.rules.State.{view, pack, added};
 ghost use Rattle.book.specs.rules.Refusals.{barring};
 ghost use Rattle.book.specs.rules.Step.{payoutWords, reply};
 ghost use Rattle.book.specs.rules.Answers.{replied};
@@ -72,7 +72,7 @@ fn refused(answer: Answer, book: Book) -> Applied
 
 // Opens period k, where 4 to 7 are passed, and pays nothing.
 pub fn with_opened(b: Book, k: u32, words: &mut [u64]) -> Book
-    requires { ⌜ Valid b × (b .n ≤ length (now words)) × (length (view b .periods) < mostPeriods) ⌝ }
+    requires { ⌜ Valid b × (b .n ≤ length (now words)) × (length (view b .periods) < b .limits .periods) ⌝ }
     ensures { λ r. ⌜ (r ≡ pack (added (view b) (fresh k))) × (now (words .exit) ≡ payoutWords (b .n) (zeros places) (now (words .entry))) ⌝ }
 {
     put_cells(words, b.n, [0; PLACES]);

@@ -11,6 +11,7 @@ use Rattle.text.specs.declared.streams.Last.{Last}
 use Rattle.text.specs.declared.streams.Last.the-variants.{More, Ended, Failed}
 use Rattle.text.specs.declared.streams.Input as input
 use Rattle.text.specs.declared.streams.Output as output
+use Rattle.book.specs.declared.limits.Limits.{Limits}
 use Rattle.lister.specs.Lines.{header}
 use Rattle.lister.specs.Sessions.{Listed, Told, Session}
 use Rattle.lister.specs.inner.Blocks.{whyEnded}
@@ -19,13 +20,13 @@ use Rattle.lister.specs.declared.ends.End.the-variants.{Input, NotRead, 
 use Rattle.lister.proofs.PieceLaws.{listing-empty}
 
 -- an ending by what the last read left
-pub told-as : (i : input.Input) (o : output.Output) (turns : ℕ) (why : End) → whyEnded (i .last) ≡ why
-    → Session (record { why = why; turns = turns; input = i; output = o }) → Session (record { why = whyEnded (i .last); turns = turns; input = i; output = o })
-told-as i o turns why q s = subst (λ (x : End). Session (record { why = x; turns = turns; input = i; output = o })) (sym q) s
+pub told-as : {limits : Limits} (i : input.Input) (o : output.Output) (turns : ℕ) (why : End) → whyEnded (i .last) ≡ why
+    → Session limits (record { why = why; turns = turns; input = i; output = o }) → Session limits (record { why = whyEnded (i .last); turns = turns; input = i; output = o })
+told-as {limits} i o turns why q s = subst (λ (x : End). Session limits (record { why = x; turns = turns; input = i; output = o })) (sym q) s
 
 -- the header alone was handed over
-module _ (i : input.Input) (o : output.Output) (none : i .total ≡ 0) (e : o .total ≡ length header) where
-  header-alone : (why : End) → Listed why [] header → Told why i o 0 → Session (record { why = why; turns = 0; input = i; output = o })
+module _ {limits : Limits} (i : input.Input) (o : output.Output) (none : i .total ≡ 0) (e : o .total ≡ length header) where
+  header-alone : (why : End) → Listed limits why [] header → Told why i o 0 → Session limits (record { why = why; turns = 0; input = i; output = o })
   header-alone why l t = record {
     seen = [];
     put = header;
@@ -36,14 +37,14 @@ module _ (i : input.Input) (o : output.Output) (none : i .total ≡ 0) (e : o .t
     few-turns = omega arith;
   }
 
-  pub header-not-written : o .all ≡ false → Session (record { why = NotWritten; turns = 0; input = i; output = o })
-  header-not-written f = header-alone NotWritten ([], listing-empty) f
+  pub header-not-written : o .all ≡ false → Session limits (record { why = NotWritten; turns = 0; input = i; output = o })
+  header-not-written f = header-alone NotWritten ([], listing-empty limits) f
 
   -- and the first read brought nothing
-  pub nothing-read : (count : ℕ) → Came (i .last) count → count ≡ 0 → o .all ≡ true → Session (record { why = whyEnded (i .last); turns = 0; input = i; output = o })
+  pub nothing-read : (count : ℕ) → Came (i .last) count → count ≡ 0 → o .all ≡ true → Session limits (record { why = whyEnded (i .last); turns = 0; input = i; output = o })
   nothing-read count m z t = by-last (i .last) refl m
     where
-      by-last : (l : Last) → i .last ≡ l → Came l count → Session (record { why = whyEnded (i .last); turns = 0; input = i; output = o })
+      by-last : (l : Last) → i .last ≡ l → Came l count → Session limits (record { why = whyEnded (i .last); turns = 0; input = i; output = o })
       by-last More q m = absurd (omega (arith, m, z))
-      by-last Ended q m = told-as i o 0 Input (ap whyEnded q) (header-alone Input listing-empty (q, t))
+      by-last Ended q m = told-as i o 0 Input (ap whyEnded q) (header-alone Input (listing-empty limits) (q, t))
       by-last Failed q m = told-as i o 0 NotRead (ap whyEnded q) (header-alone NotRead (inl (refl, refl)) (q, t))

@@ -8,6 +8,7 @@ use native.Mathlib.Omega.{arith}
 use borrow.Author.Tests.{eq-eqb, ne-eqb}
 use lib.ListN.{getD, length, drop, List·getD-append}
 use lib.Seq.{sets, sets-eq}
+use Rattle.exact.specs.Rows.{places}
 use Rattle.exact.proofs.Cases.{le-or-lt}
 use Rattle.lister.specs.Lines.{entryLine, payLine, payLines}
 use Rattle.lister.specs.inner.Runs.{linesTo, lastPaid, runLines}
@@ -45,7 +46,7 @@ module _ (a p h : ℕ) (lines : List ℕ) where
 
 -- a line that paid, the last of its run
 pub run-paid : (first a p h : ℕ) (words : List ℕ) → (p ≡ 0 → ⊥)
-    → runLines first (a ∷ p ∷ h ∷ []) 1 words ≡ entryLine first a p h ++ payLines words 64
+    → runLines first (a ∷ p ∷ h ∷ []) 1 words ≡ entryLine first a p h ++ payLines words places
 unfolding runLines linesTo lastPaid
 run-paid first a p h words pays = rw (add-zero first, ne-eqb p 0 pays)
 

@@ -131,10 +131,10 @@ module _ {b : Book} {e : Entry} {words : List ℕ} (many : b .n ≤ places) (a :
 
   -- it pays: the lines of all words lent are those of its payouts
   pub entry-paid : (number : ℕ) → (paidBy (b .n) x ≡ 0 → ⊥)
-      → entryLines number (b .n) y ≡ entryLine number (x .answer) (paidBy (b .n) x) (centsHeld (x .book)) ++ payLines (x .words) 64
+      → entryLines number (b .n) y ≡ entryLine number (x .answer) (paidBy (b .n) x) (centsHeld (x .book)) ++ payLines (x .words) places
   unfolding entryLines
   entry-paid number pays =
       let q : y .answer ≡ 0 = ⊎-elim (λ z. z) (λ h. absurd (pays (alike-paid a ∙ paid-refused (b .n) y h))) (eq-or-ne (y .answer) 0) in
-      let w : payLines (y .words) (b .n) ≡ payLines (x .words) 64 =
-      ap (λ (l : List ℕ). payLines l (b .n)) (sym (a .accepted q)) ∙ sym (pays-tail (x .words) (b .n) 64 many (agree-at (a .agree))) in
+      let w : payLines (y .words) (b .n) ≡ payLines (x .words) places =
+      ap (λ (l : List ℕ). payLines l (b .n)) (sym (a .accepted q)) ∙ sym (pays-tail (x .words) (b .n) places many (agree-at (a .agree))) in
       λ i. line-same number i ++ w i

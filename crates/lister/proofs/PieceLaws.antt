@@ -2,6 +2,7 @@
 use Prim.Native.Nat.{ℕ, _+_, _%_, _^_}
 use mathlib.Core.Path.{_≡_, refl, sym, ap, _∙_}
 use mathlib.Core.List.{List, [], _∷_, _++_, append-assoc, append-nil}
+use Rattle.book.specs.declared.limits.Limits.{Limits}
 use Rattle.book.specs.declared.Book.{Book}
 use Rattle.lister.specs.Lines.{header}
 use Rattle.lister.specs.Listing.{listingFrom, listing, bookFor}
@@ -22,38 +23,38 @@ pub lists-mod : {a : Stand} {l s : List ℕ} {m k : ℕ} {b : Book} → Lists a 
 lists-mod {a} {l} {s} {m} {k} {b} f h = record { whole = λ more. f .whole more ∙ ap (λ (x : List ℕ). l ++ x) (listing-mod m k b (s ++ more) h) }
 
 -- n was handed over, and what stands behind it
-pub stands-first : (n : ℕ) (s : List ℕ) → Stands (n ∷ s) header (record { number = 1; book = bookFor n; left = s })
+pub stands-first : (limits : Limits) (n : ℕ) (s : List ℕ) → Stands limits (n ∷ s) header (record { number = 1; book = bookFor limits n; left = s })
 unfolding listing
-stands-first n s = record { whole = λ more. refl }
+stands-first limits n s = record { whole = λ more. refl }
 
-module _ {seen put : List ℕ} {a : Stand} (s : Stands seen put a) where
+module _ {limits : Limits} {seen put : List ℕ} {a : Stand} (s : Stands limits seen put a) where
   -- a piece more of the input
-  pub stands-fed : (piece : List ℕ) → Stands (seen ++ piece) put (fed a piece)
+  pub stands-fed : (piece : List ℕ) → Stands limits (seen ++ piece) put (fed a piece)
   stands-fed piece = record {
     whole = λ more.
-        ap listing (append-assoc seen piece more) ∙ s .whole (piece ++ more)
+        ap (listing limits) (append-assoc seen piece more) ∙ s .whole (piece ++ more)
         ∙ ap (λ (l : List ℕ). put ++ listingFrom (a .number) (a .book) l) (sym (append-assoc (a .left) piece more));
   }
 
   -- some of it is listed
-  pub stands-listed : {l : List ℕ} {z : Stand} → Lists a l z → Stands seen (put ++ l) z
+  pub stands-listed : {l : List ℕ} {z : Stand} → Lists a l z → Stands limits seen (put ++ l) z
   stands-listed {l} {z} f = record {
     whole = λ more. s .whole more ∙ ap (λ (x : List ℕ). put ++ x) (f .whole more) ∙ sym (append-assoc put l (rest (fed z more)));
   }
 
   -- nothing follows
-  pub stands-now : listing seen ≡ put ++ rest a
+  pub stands-now : listing limits seen ≡ put ++ rest a
   stands-now =
-      ap listing (sym (append-nil seen)) ∙ s .whole [] ∙ ap (λ (l : List ℕ). put ++ listingFrom (a .number) (a .book) l) (append-nil (a .left))
+      ap (listing limits) (sym (append-nil seen)) ∙ s .whole [] ∙ ap (λ (l : List ℕ). put ++ listingFrom (a .number) (a .book) l) (append-nil (a .left))
 
   -- the listing is whole, at the end of the input or whatever follows
-  pub stands-ended : {l : List ℕ} → rest a ≡ l → listing seen ≡ put ++ l
+  pub stands-ended : {l : List ℕ} → rest a ≡ l → listing limits seen ≡ put ++ l
   stands-ended e = stands-now ∙ ap (λ (x : List ℕ). put ++ x) e
 
-  pub stands-closed : {l : List ℕ} → ((more : List ℕ) → rest (fed a more) ≡ l) → (more : List ℕ) → listing (seen ++ more) ≡ put ++ l
+  pub stands-closed : {l : List ℕ} → ((more : List ℕ) → rest (fed a more) ≡ l) → (more : List ℕ) → listing limits (seen ++ more) ≡ put ++ l
   stands-closed e more = s .whole more ∙ ap (λ (x : List ℕ). put ++ x) (e more)
 
 -- an input of no byte
-pub listing-empty : listing [] ≡ header
+pub listing-empty : (limits : Limits) → listing limits [] ≡ header
 unfolding listing
-listing-empty = refl
+listing-empty limits = refl

@@ -15,7 +15,7 @@ use Rattle.book.specs.rules.Words.{AgreeFrom}
 use Rattle.book.specs.runs.Running.{Run, lineOf, stopped, lined, run}
 use Rattle.book.specs.declared.entries.Entry.{Entry}
 use Rattle.book.specs.declared.Book.{Book}
-use Rattle.book.proofs.Laws.{reading-front, reading-before, none-answer, read-within, read-or-none, run-full, run-unread, run-read, stays-valid, Alike, alike, reply-n}
+use Rattle.book.proofs.Laws.{many-places, reading-front, reading-before, none-answer, read-within, read-or-none, run-full, run-unread, run-read, stays-valid, Alike, alike, reply-n}
 use Rattle.lister.specs.Lines.{entryLine}
 use Rattle.lister.specs.Listing.{lent, entryLines, listingFrom}
 use Rattle.lister.specs.Pieces.{Lists}
@@ -129,7 +129,7 @@ module _ (bytes : List ℕ) where
             let k : number + 1 + w .count ≡ number + suc (w .count) = omega arith in
             let u : List ℕ = drop (r .place) bytes ++ more in
             entry-first more
-            ∙ ap (λ (l : List ℕ). l ++ listingFrom (number + 1) (x .book) (drop next bytes ++ more)) (entry-unpaid (v .fit .many) same number z ∙ append-nil printed)
+            ∙ ap (λ (l : List ℕ). l ++ listingFrom (number + 1) (x .book) (drop next bytes ++ more)) (entry-unpaid (many-places (v .fit)) same number z ∙ append-nil printed)
             ∙ ap (λ (l : List ℕ). printed ++ l) (w .lists .whole more)
             ∙ sym (append-assoc printed (runLines (number + 1) (r .lines) (w .count) (r .words)) (listingFrom (number + 1 + w .count) (r .book) u))
             ∙ ap₂ (λ (l : List ℕ) (j : ℕ). l ++ listingFrom j (r .book) u)
@@ -153,7 +153,7 @@ module _ (bytes : List ℕ) where
         whole = λ more.
             entry-first more
             ∙ ap (λ (l : List ℕ). l ++ listingFrom (number + 1) (x .book) (drop next bytes ++ more))
-            (entry-paid (v .fit .many) same number pays ∙ sym (run-paid number (x .answer) (paidBy (b .n) x) (centsHeld (x .book)) (x .words) pays));
+            (entry-paid (many-places (v .fit)) same number pays ∙ sym (run-paid number (x .answer) (paidBy (b .n) x) (centsHeld (x .book)) (x .words) pays));
       };
     }
 

@@ -18,10 +18,11 @@ use Rattle.text.proofs.BlockLaws.{kept-front}
 use Rattle.text.proofs.StreamLaws.{more-of, failed-of, fetched-front}
 use Rattle.book.specs.rules.Makings.{separate}
 use Rattle.book.specs.rules.Valid.{Valid}
+use Rattle.book.specs.declared.limits.Limits.{Limits}
 use Rattle.book.specs.declared.Book.{Book}
 use Rattle.book.proofs.Laws.{stays-valid, short-few}
 use Rattle.lister.specs.Lines.{header}
-use Rattle.lister.specs.Listing.{listing}
+use Rattle.lister.specs.Listing.{listing, bookFor}
 use Rattle.lister.specs.Pieces.{rest, Stands}
 use Rattle.lister.specs.Sessions.{Listed, Told, Session}
 use Rattle.lister.specs.Turns.{Goes}
@@ -37,12 +38,12 @@ use Rattle.lister.proofs.PieceLaws.{stands-first, stands-fed, stands-li
 
 -- where the loop stands before the bytes that are there, after so many turns; a turn lists an entry, reads a byte or finds
 -- the end of the input
-pub record Looping (feed words : List ℕ) (s : Standing) (i : input.Input) (filled : ℕ) (o : output.Output) (turns : ℕ) : Type 0 where
+pub record Looping (limits : Limits) (feed words : List ℕ) (s : Standing) (i : input.Input) (filled : ℕ) (o : output.Output) (turns : ℕ) : Type 0 where
   pub seen : List ℕ
   pub put : List ℕ
   pub seen-counted : i .total ≡ min (length seen) most
   pub put-counted : o .total ≡ min (length put) most
-  pub stands : Stands seen put (standIn (take filled feed) s)
+  pub stands : Stands limits seen put (standIn (take filled feed) s)
   pub ready : Ready (take filled feed) s words
   pub there : filled ≤ length feed
   pub written : o .all ≡ true
@@ -53,18 +54,19 @@ pub record Looping (feed words : List ℕ) (s : Standing) (i : input.Input) (fil
 part-whole : (feed : List ℕ) (filled : ℕ) {part : List ℕ} → part ≡ take (filled - 0) (drop 0 feed) → part ≡ take filled feed
 part-whole feed filled e = let k : filled - 0 ≡ filled = omega arith in e ∙ ap (λ (j : ℕ). take j feed) k
 
-pub loop-begins : {first : Book} {read : Fetched} {o : output.Output} {feed words : List ℕ} (s : Standing)
-    → s ≡ record { book = first; number = 1; place = 1; wrote = 0; next = Again } → Begun first read o feed words → Looping feed words s (read .input) (read .filled) o 0
-loop-begins {first} {read} {o} {feed} {words} z q g = subst (λ (x : Standing). Looping feed words x (read .input) (read .filled) o 0) (sym q) (record {
+pub loop-begins : (limits : Limits) {first : Book} {read : Fetched} {o : output.Output} {feed words : List ℕ} (s : Standing)
+    → s ≡ record { book = first; number = 1; place = 1; wrote = 0; next = Again } → s .book ≡ bookFor limits (getD feed 0 0) → Begun read o feed words
+    → Looping limits feed words s (read .input) (read .filled) o 0
+loop-begins limits {first} {read} {o} {feed} {words} z q e g = subst (λ (x : Standing). Looping limits feed words x (read .input) (read .filled) o 0) (sym q) (record {
   seen = s;
   put = header;
   seen-counted = g .read-counted ∙ ap (λ (k : ℕ). min k most) (sym size);
   put-counted = g .header-counted;
-  stands = subst (λ (l : List ℕ). Stands l header (record { number = 1; book = first; left = drop 1 s })) (sym split)
-      (subst (λ (b : Book). Stands (getD feed 0 0 ∷ drop 1 s) header (record { number = 1; book = b; left = drop 1 s })) (sym (g .book))
-      (stands-first (getD feed 0 0) (drop 1 s)));
+  stands = subst (λ (l : List ℕ). Stands limits l header (record { number = 1; book = first; left = drop 1 s })) (sym split)
+      (subst (λ (b : Book). Stands limits (getD feed 0 0 ∷ drop 1 s) header (record { number = 1; book = b; left = drop 1 s })) (sym made)
+      (stands-first limits (getD feed 0 0) (drop 1 s)));
   ready = record {
-    valid = subst Valid (sym (g .book)) (stays-valid .first (separate (getD feed 0 0)));
+    valid = subst Valid (sym made) (stays-valid .first (separate (getD feed 0 0) limits));
     within = omega (arith, size, g .some);
     agree = record { size = ap length (g .as-lent); rest = ap (drop (first .n)) (g .as-lent) };
   };
@@ -74,6 +76,9 @@ loop-begins {first} {read} {o} {feed} {words} z q g = subst (λ (x : Standing). 
   few = omega (arith, length-drop 1 s);
 })
   where
+    made : first ≡ bookFor limits (getD feed 0 0)
+    made = sym (ap (λ (x : Standing). x .book) q) ∙ e
+
     s : List ℕ
     s = take (read .filled) feed
 
@@ -84,9 +89,9 @@ loop-begins {first} {read} {o} {feed} {words} z q g = subst (λ (x : Standing). 
     split = drop-cons s 0 0 (omega (arith, size, g .some)) ∙ ap (λ (k : ℕ). k ∷ drop 1 s) (getD-take (read .filled) feed 0 0 (g .some))
 
 -- the turns are used up
-pub loop-turns : {feed words : List ℕ} {s : Standing} {i : input.Input} {filled : ℕ} {o : output.Output} {turns : ℕ} → Looping feed words s i filled o turns
-    → turns ≡ most → Session (record { why = Turns; turns = turns; input = i; output = o })
-loop-turns {feed} {words} {s} {i} {filled} {o} {turns} g e = record {
+pub loop-turns : {limits : Limits} {feed words : List ℕ} {s : Standing} {i : input.Input} {filled : ℕ} {o : output.Output} {turns : ℕ} → Looping limits feed words s i filled o turns
+    → turns ≡ most → Session limits (record { why = Turns; turns = turns; input = i; output = o })
+loop-turns {limits} {feed} {words} {s} {i} {filled} {o} {turns} g e = record {
   seen = g .seen;
   put = g .put;
   seen-counted = g .seen-counted;
@@ -101,25 +106,25 @@ loop-turns {feed} {words} {s} {i} {filled} {o} {turns} g e = record {
     few-end false h = omega (arith, h)
 
 -- the block that is listed is what is there
-pub ready-part : {feed words part : List ℕ} {s : Standing} {i : input.Input} {filled turns : ℕ} {o : output.Output} → Looping feed words s i filled o turns
+pub ready-part : {limits : Limits} {feed words part : List ℕ} {s : Standing} {i : input.Input} {filled turns : ℕ} {o : output.Output} → Looping limits feed words s i filled o turns
     → part ≡ take (filled - 0) (drop 0 feed) → Ready part s words
-ready-part {feed} {words} {part} {s} {i} {filled} g p = subst (λ (l : List ℕ). Ready l s words) (sym (part-whole feed filled p)) (g .ready)
+ready-part {limits} {feed} {words} {part} {s} {i} {filled} g p = subst (λ (l : List ℕ). Ready l s words) (sym (part-whole feed filled p)) (g .ready)
 
 -- a turn so far: a block was listed, and what was put of it handed over
-pub record Turned (feed words : List ℕ) (z : Standing) (i : input.Input) (filled turns : ℕ) (w : output.Output) : Type 0 where
+pub record Turned (limits : Limits) (feed words : List ℕ) (z : Standing) (i : input.Input) (filled turns : ℕ) (w : output.Output) : Type 0 where
   pub start : Standing
   pub lent-words : List ℕ
   pub before : output.Output
   pub out : List ℕ
   pub after : List ℕ
-  pub going : Looping feed lent-words start i filled before turns
+  pub going : Looping limits feed lent-words start i filled before turns
   pub block : BlockListed (take filled feed) start (isEnded (i .last)) out z after words
   pub handed : w .total ≡ min (before .total + z .wrote) most
 
-pub turned : {feed words words′ out after part : List ℕ} {a z : Standing} {i : input.Input} {filled turns : ℕ} {o : output.Output} (w : output.Output)
-    → Looping feed words a i filled o turns → part ≡ take (filled - 0) (drop 0 feed) → BlockListed part a (isEnded (i .last)) out z after words′
-    → w .total ≡ min (o .total + z .wrote) most → Turned feed words′ z i filled turns w
-turned {feed} {words} {words′} {out} {after} {part} {a} {z} {i} {filled} {turns} {o} w g p b c = record {
+pub turned : {limits : Limits} {feed words words′ out after part : List ℕ} {a z : Standing} {i : input.Input} {filled turns : ℕ} {o : output.Output} (w : output.Output)
+    → Looping limits feed words a i filled o turns → part ≡ take (filled - 0) (drop 0 feed) → BlockListed part a (isEnded (i .last)) out z after words′
+    → w .total ≡ min (o .total + z .wrote) most → Turned limits feed words′ z i filled turns w
+turned {limits} {feed} {words} {words′} {out} {after} {part} {a} {z} {i} {filled} {turns} {o} w g p b c = record {
   start = a;
   lent-words = words;
   before = o;
@@ -130,14 +135,14 @@ turned {feed} {words} {words′} {out} {after} {part} {a} {z} {i} {filled} {turn
   handed = c;
 }
 
-module _ {feed words′ : List ℕ} {z : Standing} {i : input.Input} {filled turns : ℕ} {w : output.Output} (x : Turned feed words′ z i filled turns w) where
+module _ {limits : Limits} {feed words′ : List ℕ} {z : Standing} {i : input.Input} {filled turns : ℕ} {w : output.Output} (x : Turned limits feed words′ z i filled turns w) where
   abbrev bytes : List ℕ
   bytes = take filled feed
 
   abbrev a : Standing
   a = x .start
 
-  abbrev g : Looping feed (x .lent-words) (x .start) i filled (x .before) turns
+  abbrev g : Looping limits feed (x .lent-words) (x .start) i filled (x .before) turns
   g = x .going
 
   abbrev block : BlockListed (take filled feed) (x .start) (isEnded (i .last)) (x .out) z (x .after) words′
@@ -154,7 +159,7 @@ module _ {feed words′ : List ℕ} {z : Standing} {i : input.Input} {filled tur
   few-end false h = omega (arith, h)
 
   -- the listing ends here
-  ended : (why : End) → Listed why (g .seen) put → Told why i w (turns + 1) → Session (record { why = why; turns = turns + 1; input = i; output = w })
+  ended : (why : End) → Listed limits why (g .seen) put → Told why i w (turns + 1) → Session limits (record { why = why; turns = turns + 1; input = i; output = w })
   ended why l t = record {
     seen = g .seen;
     put = put;
@@ -170,26 +175,26 @@ module _ {feed words′ : List ℕ} {z : Standing} {i : input.Input} {filled tur
       (subst (λ (n : Next). Goes (isEnded (i .last)) n (z .wrote) (standIn bytes a) (block .put) (standIn bytes z)) d (block .goes))
 
   -- where not all was written, what was put is the front of the listing of the bytes read
-  pub turn-not-written : w .all ≡ false → Session (record { why = NotWritten; turns = turns + 1; input = i; output = w })
+  pub turn-not-written : w .all ≡ false → Session limits (record { why = NotWritten; turns = turns + 1; input = i; output = w })
   turn-not-written e = ended NotWritten (front (isEnded (i .last)) (z .next) (block .goes)) e
     where
-      front : (t : Bool) (next : Next) → Goes t next (z .wrote) (standIn bytes a) (block .put) (standIn bytes z) → (l : List ℕ) × (listing (g .seen) ≡ put ++ l)
+      front : (t : Bool) (next : Next) → Goes t next (z .wrote) (standIn bytes a) (block .put) (standIn bytes z) → (l : List ℕ) × (listing limits (g .seen) ≡ put ++ l)
       front t Again h = (rest (standIn bytes z), stands-now (stands-listed (g .stands) (h .0)))
       front false Read h = (rest (standIn bytes z), stands-now (stands-listed (g .stands) (h .0)))
       front true Read h = absurd h
       front t Done h = ([], stands-ended (g .stands) (ends-here h) ∙ sym (append-nil put))
 
   -- the listing is whole
-  pub turn-done : z .next ≡ Done → w .all ≡ true → Session (record { why = whyEnded (i .last); turns = turns + 1; input = i; output = w })
+  pub turn-done : z .next ≡ Done → w .all ≡ true → Session limits (record { why = whyEnded (i .last); turns = turns + 1; input = i; output = w })
   turn-done d e = by-last (i .last) refl
     where
-      by-last : (l : Last) → i .last ≡ l → Session (record { why = whyEnded (i .last); turns = turns + 1; input = i; output = w })
+      by-last : (l : Last) → i .last ≡ l → Session limits (record { why = whyEnded (i .last); turns = turns + 1; input = i; output = w })
       by-last More q = told-as i w (turns + 1) Unread (ap whyEnded q) (ended Unread (stands-closed (g .stands) (ends-always (goes-as Done d false (ap isEnded q)) refl)) (q, e))
       by-last Ended q = told-as i w (turns + 1) Input (ap whyEnded q) (ended Input (stands-ended (g .stands) (ends-here (goes-as Done d true (ap isEnded q)))) (q, e))
       by-last Failed q = absurd (true≢false (sym (ap isFailed q) ∙ g .not-failed))
 
   -- there is more to list in the block
-  pub turn-again : z .next ≡ Again → w .all ≡ true → Looping feed words′ z i filled w (turns + 1)
+  pub turn-again : z .next ≡ Again → w .all ≡ true → Looping limits feed words′ z i filled w (turns + 1)
   turn-again d e =
       let h = goes-as Again d (isEnded (i .last)) refl in
       record {
@@ -240,8 +245,8 @@ module _ {feed words′ : List ℕ} {z : Standing} {i : input.Input} {filled tur
       abbrev now : Standing
       now = record { book = z .book; number = z .number; place = 0; wrote = z .wrote; next = z .next }
 
-      stands : Stands (g .seen ++ piece) put (standIn (take (r .filled) feed″) now)
-      stands = subst (λ (l : List ℕ). Stands (g .seen ++ piece) put (record { number = z .number; book = z .book; left = l })) (sym whole)
+      stands : Stands limits (g .seen ++ piece) put (standIn (take (r .filled) feed″) now)
+      stands = subst (λ (l : List ℕ). Stands limits (g .seen ++ piece) put (record { number = z .number; book = z .book; left = l })) (sym whole)
           (stands-fed (stands-listed (g .stands) (short .1 .0)) piece)
 
       counted-in : r .input .total ≡ min (length (g .seen ++ piece)) most
@@ -251,7 +256,7 @@ module _ {feed words′ : List ℕ} {z : Standing} {i : input.Input} {filled tur
       few-before = let h = subst (λ (t : Bool). turns + length (drop (a .place) bytes) ≤ 2 * length (g .seen) + cond t 1 0) (short .0) (g .few) in omega (arith, h)
 
       -- the read failed, and brought nothing
-      pub turn-not-read : isFailed (r .input .last) ≡ true → Session (record { why = NotRead; turns = turns + 1; input = r .input; output = w })
+      pub turn-not-read : isFailed (r .input .last) ≡ true → Session limits (record { why = NotRead; turns = turns + 1; input = r .input; output = w })
       turn-not-read h =
           let q = failed-of (r .input .last) h in
           let none : r .filled - filled′ ≡ 0 = subst (λ (l : Last). Came l (r .filled - filled′)) q (f .came) in
@@ -266,7 +271,7 @@ module _ {feed words′ : List ℕ} {z : Standing} {i : input.Input} {filled tur
           }
 
       -- there are more bytes, or the input has ended
-      pub turn-read : isFailed (r .input .last) ≡ false → Looping feed″ words′ now (r .input) (r .filled) w (turns + 1)
+      pub turn-read : isFailed (r .input .last) ≡ false → Looping limits feed″ words′ now (r .input) (r .filled) w (turns + 1)
       turn-read h = record {
         seen = g .seen ++ piece;
         put = put;

@@ -2,6 +2,7 @@
 use Prim.Native.Nat.{ℕ}
 use mathlib.Core.Path.{_≡_}
 use mathlib.Core.List.{List, [], _∷_, _++_}
+use Rattle.book.specs.rules.Limits.{market}
 use Rattle.lister.specs.Lines.{header}
 use Rattle.lister.specs.Listing.{listing}
 
@@ -46,16 +47,16 @@ abbrev pub tierSix : List ℕ
 tierSix = 3 ∷ 7 ∷ 0 ∷ 0 ∷ 0 ∷ 1 ∷ 1 ∷ 6 ∷ 100 ∷ 0 ∷ 0 ∷ 0 ∷ 0 ∷ 0 ∷ 0 ∷ 0 ∷ []
 
 pub record Examples : Type 0 where
-  pub month-a : listing (3 ∷ firstEight ++ lastFour) ≡ header ++ firstEightLines ++ lastFourLines
+  pub month-a : listing market (3 ∷ firstEight ++ lastFour) ≡ header ++ firstEightLines ++ lastFourLines
   -- no byte; n alone; a whole entry
-  pub empty : listing [] ≡ header
-  pub n-alone : listing (3 ∷ []) ≡ header
-  pub whole-entry : listing (3 ∷ opening) ≡ header ++ openingLine
+  pub empty : listing market [] ≡ header
+  pub n-alone : listing market (3 ∷ []) ≡ header
+  pub whole-entry : listing market (3 ∷ opening) ≡ header ++ openingLine
   -- a part of an entry, 2 1 0 0; an unknown kind, 2 2 0 0; a field outside its values, 2 3 0 0, and nothing after it
-  pub short : listing (3 ∷ opening ++ 4 ∷ 7 ∷ 0 ∷ 0 ∷ []) ≡ header ++ openingLine ++ 50 ∷ 32 ∷ 49 ∷ 32 ∷ 48 ∷ 32 ∷ 48 ∷ 10 ∷ []
-  pub unknown : listing (3 ∷ opening ++ 9 ∷ opening) ≡ header ++ openingLine ++ 50 ∷ 32 ∷ 50 ∷ 32 ∷ 48 ∷ 32 ∷ 48 ∷ 10 ∷ []
-  pub outside : listing (3 ∷ opening ++ tierSix ++ opening) ≡ header ++ openingLine ++ 50 ∷ 32 ∷ 51 ∷ 32 ∷ 48 ∷ 32 ∷ 48 ∷ 10 ∷ []
+  pub short : listing market (3 ∷ opening ++ 4 ∷ 7 ∷ 0 ∷ 0 ∷ []) ≡ header ++ openingLine ++ 50 ∷ 32 ∷ 49 ∷ 32 ∷ 48 ∷ 32 ∷ 48 ∷ 10 ∷ []
+  pub unknown : listing market (3 ∷ opening ++ 9 ∷ opening) ≡ header ++ openingLine ++ 50 ∷ 32 ∷ 50 ∷ 32 ∷ 48 ∷ 32 ∷ 48 ∷ 10 ∷ []
+  pub outside : listing market (3 ∷ opening ++ tierSix ++ opening) ≡ header ++ openingLine ++ 50 ∷ 32 ∷ 51 ∷ 32 ∷ 48 ∷ 32 ∷ 48 ∷ 10 ∷ []
   -- the cents held stand in the line of bytes that cannot be read too: 9 2 0 300
-  pub held : listing (3 ∷ firstEight ++ 0 ∷ []) ≡ header ++ firstEightLines ++ 57 ∷ 32 ∷ 50 ∷ 32 ∷ 48 ∷ 32 ∷ 51 ∷ 48 ∷ 48 ∷ 10 ∷ []
+  pub held : listing market (3 ∷ firstEight ++ 0 ∷ []) ≡ header ++ firstEightLines ++ 57 ∷ 32 ∷ 50 ∷ 32 ∷ 48 ∷ 32 ∷ 51 ∷ 48 ∷ 48 ∷ 10 ∷ []
   -- n is refused: every entry is answered 4, and bytes that cannot be read are still 1, 2 or 3
-  pub refused : listing (65 ∷ opening ++ 1 ∷ []) ≡ header ++ (49 ∷ 32 ∷ 52 ∷ 32 ∷ 48 ∷ 32 ∷ 48 ∷ 10 ∷ []) ++ 50 ∷ 32 ∷ 49 ∷ 32 ∷ 48 ∷ 32 ∷ 48 ∷ 10 ∷ []
+  pub refused : listing market (65 ∷ opening ++ 1 ∷ []) ≡ header ++ (49 ∷ 32 ∷ 52 ∷ 32 ∷ 48 ∷ 32 ∷ 48 ∷ 10 ∷ []) ++ 50 ∷ 32 ∷ 49 ∷ 32 ∷ 48 ∷ 32 ∷ 48 ∷ 10 ∷ []

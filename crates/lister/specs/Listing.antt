@@ -1,4 +1,4 @@
--- The listing of a whole input, entry by entry (01, Reckoned examples, its end). It knows no blocks, runs or buffers.
+-- The listing of a whole input in a book of some limits, entry by entry (01, Reckoned examples, its end; 02, f). It knows no blocks, runs or buffers.
 use Prim.Native.Nat.{ℕ, zero, suc, _+_}
 use mathlib.Core.List.{List, [], _∷_, _++_}
 use lib.ListN.{length, drop, replicate}
@@ -7,6 +7,7 @@ use Rattle.book.specs.layouts.Reading.{reading, onEntry}
 use Rattle.book.specs.rules.State.{pack, centsHeld}
 use Rattle.book.specs.rules.Makings.{made, separate}
 use Rattle.book.specs.rules.Step.{Reply, reply, paidBy}
+use Rattle.book.specs.declared.limits.Limits.{Limits}
 use Rattle.book.specs.declared.Book.{Book}
 use Rattle.lister.specs.Lines.{header, entryLine, payLines}
 
@@ -36,11 +37,12 @@ entriesFrom (suc most) number b s =
 unfoldable pub listingFrom : ℕ → Book → List ℕ → List ℕ
 listingFrom number b s = entriesFrom (length s) number b s
 
--- the book that is made for n participants, each in a group of its own, without reserves; of a refused n it has none (02, a)
-abbrev pub bookFor : ℕ → Book
-bookFor n = pack (made (separate n) .state)
+-- the book of these limits that is made for n participants, each in a group of its own, without reserves; of a refused n it has
+-- none (02, a and f)
+abbrev pub bookFor : Limits → ℕ → Book
+bookFor limits n = pack (made (separate n limits) .state)
 
 -- the header for every input; n is its first byte, and entries are what follows
-unfoldable pub listing : List ℕ → List ℕ
-listing [] = header
-listing (n ∷ s) = header ++ listingFrom 1 (bookFor n) s
+unfoldable pub listing : Limits → List ℕ → List ℕ
+listing limits [] = header
+listing limits (n ∷ s) = header ++ listingFrom 1 (bookFor limits n) s

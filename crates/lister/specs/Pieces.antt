@@ -2,6 +2,7 @@
 use Prim.Native.Nat.{ℕ}
 use mathlib.Core.Path.{_≡_}
 use mathlib.Core.List.{List, _++_}
+use Rattle.book.specs.declared.limits.Limits.{Limits}
 use Rattle.book.specs.declared.Book.{Book}
 use Rattle.lister.specs.Listing.{listingFrom, listing}
 
@@ -24,5 +25,5 @@ pub record Lists (a : Stand) (put : List ℕ) (z : Stand) : Type 0 where
   pub whole : (more : List ℕ) → rest (fed a more) ≡ put ++ rest (fed z more)
 
 -- after the bytes seen so far these were put, and the listing stands there, whatever follows
-pub record Stands (seen put : List ℕ) (z : Stand) : Type 0 where
-  pub whole : (more : List ℕ) → listing (seen ++ more) ≡ put ++ rest (fed z more)
+pub record Stands (limits : Limits) (seen put : List ℕ) (z : Stand) : Type 0 where
+  pub whole : (more : List ℕ) → listing limits (seen ++ more) ≡ put ++ rest (fed z more)

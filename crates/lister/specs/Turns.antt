@@ -6,6 +6,7 @@ use mathlib.Core.List.{List, [], _∷_, _++_}
 use lib.ListN.{length}
 use Rattle.book.specs.layouts.Reading.{reading}
 use Rattle.book.specs.rules.State.{centsHeld}
+use Rattle.book.specs.declared.limits.Limits.{Limits}
 use Rattle.lister.specs.Lines.{header}
 use Rattle.lister.specs.Listing.{endLine, bookFor, listing}
 use Rattle.lister.specs.Pieces.{Stand, fed, Lists}
@@ -66,16 +67,16 @@ allPut [] = []
 allPut (t ∷ ts) = t .put ++ allPut ts
 
 -- where a listing begins that was handed n
-abbrev pub begun : ℕ → Stand
-begun n = record { number = 1; book = bookFor n; left = [] }
+abbrev pub begun : Limits → ℕ → Stand
+begun limits n = record { number = 1; book = bookFor limits n; left = [] }
 
--- any input, n and what follows it, cut into pieces in any way: what the turns put, in order, is its listing; and where the input
+-- any limits and any input, n and what follows it, cut into pieces in any way: what the turns put, in order, is its listing; and where the input
 -- had not ended, that of every input that begins so
-pub record Joined (n : ℕ) (t : Turn) (ts : List Turn) : Type 0 where
-  pub whole : listing (n ∷ pieces (t ∷ ts)) ≡ header ++ allPut (t ∷ ts)
-  pub for-good : last t ts .ended ≡ false → (more : List ℕ) → listing ((n ∷ pieces (t ∷ ts)) ++ more) ≡ header ++ allPut (t ∷ ts)
+pub record Joined (limits : Limits) (n : ℕ) (t : Turn) (ts : List Turn) : Type 0 where
+  pub whole : listing limits (n ∷ pieces (t ∷ ts)) ≡ header ++ allPut (t ∷ ts)
+  pub for-good : last t ts .ended ≡ false → (more : List ℕ) → listing limits ((n ∷ pieces (t ∷ ts)) ++ more) ≡ header ++ allPut (t ∷ ts)
 
 -- an input of no byte has the header alone
 pub record JoinedPieces : Type 0 where
-  pub empty : listing [] ≡ header
-  pub joined : (n : ℕ) (t : Turn) (ts : List Turn) → Follow (begun n) t ts → Joined n t ts
+  pub empty : (limits : Limits) → listing limits [] ≡ header
+  pub joined : (limits : Limits) (n : ℕ) (t : Turn) (ts : List Turn) → Follow (begun limits n) t ts → Joined limits n t ts

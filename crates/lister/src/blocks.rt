@@ -23,7 +23,7 @@ pub const OUT: usize = 262144;
 pub type Out = [u8; OUT];
 
 // Where more bytes of output than this wait they are written out first: behind so many there is room for the lines of 512
-// entries and of 64 payouts.
+// entries and of all payouts.
 pub const WAITING: usize = 212992;
 
 // What is to be done once the output is written: list on in the block, read more of the input, or nothing.

@@ -19,6 +19,7 @@ use crate::lines::put_header;
 use crate::runs::LINES;
 use crate::runs::Lines;
 use book::Book;
+use book::Limits;
 use text::Fetched;
 use text::Output;
 use text::has_ended;
@@ -46,18 +47,18 @@ fn size(n: u8) -> usize
 }
 
 // The book of a listing: each participant is in a group of its own, and no group has a reserve.
-fn first_book(n: u8) -> Book
-    ensures { λ r. ⌜ r ≡ bookFor n ⌝ }
+fn first_book(limits: Limits, n: u8) -> Book
+    ensures { λ r. ⌜ r ≡ bookFor limits n ⌝ }
 {
-    let m = book::separate(size(n));
+    let m = book::separate(size(n), limits);
     let made = book::new(m);
     made.book
 }
 
-// Lists block after block. Each turn lists, writes out what was listed and, where the bytes left are short, moves them to the
-// front and reads behind them.
+// Lists block after block, in a book for n, which is the first byte. Each turn lists, writes out what was listed and, where the
+// bytes left are short, moves them to the front and reads behind them.
 fn list_blocks(
-    first: Book,
+    limits: Limits,
     read: Fetched,
     headed: Output,
     feed: &mut Block,
@@ -65,9 +66,10 @@ fn list_blocks(
     words: &mut Words,
     lines: &mut Lines,
 ) -> Ending
-    requires { ⌜ Begun first read headed (now feed) (now words) ⌝ }
-    ensures { λ r. ⌜ Session r ⌝ }
+    requires { ⌜ Begun read headed (now feed) (now words) ⌝ }
+    ensures { λ r. ⌜ Session limits r ⌝ }
 {
+    let first = first_book(limits, feed[0]);
     let mut s = at_first(first);
     let mut input = read.input;
     let mut filled = read.filled;
@@ -104,9 +106,15 @@ fn list_blocks(
 }
 
 // Writes the header, reads n and lists the entries behind it.
-fn list_input(feed: &mut Block, out: &mut Out, words: &mut Words, lines: &mut Lines) -> Ending
+fn list_input(
+    limits: Limits,
+    feed: &mut Block,
+    out: &mut Out,
+    words: &mut Words,
+    lines: &mut Lines,
+) -> Ending
     requires { ⌜ now words ≡ lent ⌝ }
-    ensures { λ r. ⌜ Session r ⌝ }
+    ensures { λ r. ⌜ Session limits r ⌝ }
 {
     let headed = put_header(out, 0);
     let output = write_out(unwritten(), out, headed);
@@ -118,17 +126,16 @@ fn list_input(feed: &mut Block, out: &mut Out, words: &mut Words, lines: &mut Li
         let input = read.input;
         return ended_by(why_ended(input), 0, input, output);
     }
-    let first = first_book(feed[0]);
-    list_blocks(first, read, output, feed, out, words, lines)
+    list_blocks(limits, read, output, feed, out, words, lines)
 }
 
-// Lists standard input on standard output.
-pub fn list() -> Ending
-    ensures { λ r. ⌜ Session r ⌝ }
+// Lists standard input on standard output, in a book of these limits.
+pub fn list(limits: Limits) -> Ending
+    ensures { λ r. ⌜ Session limits r ⌝ }
 {
     let mut feed = [0u8; BLOCK];
     let mut out = [0u8; OUT];
     let mut words = [0u64; WORDS];
     let mut lines = [0u64; LINES];
-    list_input(&mut feed, &mut out, &mut words, &mut lines)
+    list_input(limits, &mut feed, &mut out, &mut words, &mut lines)
 }

@@ -1,14 +1,16 @@
 // The lines of the listing.
 ghost use Prim.Native.Nat.{_+_, _*_, _≤_};
 ghost use lib.ListN.{length};
+ghost use Rattle.exact.specs.Rows.{places};
 ghost use Rattle.text.specs.Puts.{Puts};
 ghost use Rattle.lister.specs.Lines.{header, entryLine, payLine, payLines};
 ghost use Rattle.lister.specs.inner.Runs.{lineRoom, payRoom};
+use exact::PLACES;
 use text::put_bytes;
 use text::put_number;
 
 // How many payout words the book is lent.
-pub const WORDS: usize = 64;
+pub const WORDS: usize = PLACES;
 
 pub type Words = [u64; WORDS];
 
@@ -59,9 +61,9 @@ fn put_pay(out: &mut [u8], place: usize, participant: u64, cents: u64) -> usize
 
 // The lines of all payouts.
 pub fn put_pays(out: &mut [u8], place: usize, words: &Words) -> usize
-    requires { ⌜ place + 64 * payRoom ≤ length (now out) ⌝ }
-    ensures { λ r. ⌜ Puts (now (out .entry)) place (payLines (now (words .entry)) 64) (now (out .exit)) r ⌝ }
-    ensures { λ r. ⌜ r ≤ place + 64 * payRoom ⌝ }
+    requires { ⌜ place + places * payRoom ≤ length (now out) ⌝ }
+    ensures { λ r. ⌜ Puts (now (out .entry)) place (payLines (now (words .entry)) places) (now (out .exit)) r ⌝ }
+    ensures { λ r. ⌜ r ≤ place + places * payRoom ⌝ }
 {
     let mut next = place;
     for i in 0..WORDS {

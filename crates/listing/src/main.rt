@@ -1,4 +1,4 @@
-// Lists a feed from standard input, and tells on standard error where that failed.
+// Lists a feed from standard input in a market book, and tells on standard error where that failed.
 fn main() {
-    lister::tell(lister::list());
+    lister::tell(lister::list(book::market()));
 }

@@ -7,12 +7,13 @@ use crate::calls::Call;
 use crate::calls::READ_LENGTH;
 use crate::calls::entry_of;
 use crate::calls::fields_at;
-use crate::calls::making_at;
 use crate::calls::number_at;
-use crate::calls::separate_at;
 use crate::lines::NUMBERS;
 use crate::lines::layout_of;
 use crate::lines::put_line;
+use crate::makings::grouped_at;
+use crate::makings::limited_at;
+use crate::makings::separate_at;
 use book::Book;
 use book::Entry;
 use book::Making;
@@ -176,7 +177,8 @@ pub fn call(b: Book, c: Call, s: &[u8], out: &mut [u8; BLOCK]) -> Called
 {
     match c {
         Call::Make => make(separate_at(s), out),
-        Call::MakeGrouped => make(making_at(s), out),
+        Call::MakeGrouped => make(grouped_at(s), out),
+        Call::MakeLimited => make(limited_at(s), out),
         Call::Apply => apply(b, s, out),
         Call::Read(count) => {
             let next = read(s, count as usize, out);

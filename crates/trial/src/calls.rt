@@ -1,16 +1,15 @@
 // The calls in the bytes that were read: one byte says which, then its fields, least significant byte first.
-ghost use Prim.Native.Nat.{_+_, _*_, _^_, _≤_, _<_};
+ghost use Prim.Native.Nat.{_+_, _^_, _≤_, _<_};
 ghost use mathlib.Core.Path.{_≡_};
 ghost use lib.ListN.{length};
 ghost use Rattle.trial.specs.Calls.{callLength};
 use book::Entry;
-use book::Making;
-use settlement::GROUPS;
-use settlement::Grouping;
 
 pub const MAKE: u8 = 66;
 
 pub const MAKE_GROUPED: u8 = 71;
+
+pub const MAKE_LIMITED: u8 = 76;
 
 pub const APPLY: u8 = 65;
 
@@ -22,6 +21,8 @@ pub const WRITE: u8 = 87;
 const MAKE_LENGTH: usize = 9;
 
 const MAKE_GROUPED_LENGTH: usize = 585;
+
+const MAKE_LIMITED_LENGTH: usize = 601;
 
 const ENTRY_LENGTH: usize = 34;
 
@@ -35,6 +36,7 @@ const LAST_KIND: u8 = 8;
 pub enum Call {
     Make,
     MakeGrouped,
+    MakeLimited,
     Apply,
     Read(u16),
     Write,
@@ -82,41 +84,6 @@ fn word_at(s: &[u8], place: usize) -> u32
     requires { ⌜ place + 4 ≤ length (now s) ⌝ }
 {
     number_at(s, place, 4) as u32
-}
-
-// As many numbers as there are groups, one after the other from a place on, of the same width.
-fn numbers_at(s: &[u8], place: usize, width: usize) -> [u64; GROUPS]
-    requires { ⌜ (width ≤ 8) × (place + 64 * width ≤ length (now s)) ⌝ }
-{
-    let mut numbers = [0u64; GROUPS];
-    for i in 0..GROUPS {
-        numbers[i] = number_at(s, place + i * width, width);
-    }
-    numbers
-}
-
-// What MAKE makes a book with: n, groups of one and no reserves.
-pub fn separate_at(s: &[u8]) -> Making
-    requires { ⌜ 9 ≤ length (now s) ⌝ }
-{
-    book::separate(number_at(s, 1, 8) as usize)
-}
-
-// What MAKE_GROUPED makes a book with: n, the group numbers and the reserves.
-pub fn making_at(s: &[u8]) -> Making
-    requires { ⌜ 585 ≤ length (now s) ⌝ }
-{
-    let n = number_at(s, 1, 8) as usize;
-    let groups = numbers_at(s, 9, 1);
-    let reserves = numbers_at(s, 73, 8);
-    let grouping = Grouping {
-        groups: groups,
-        reserves: reserves,
-    };
-    Making {
-        n: n,
-        grouping: grouping,
-    }
 }
 
 // The fields of the call APPLY or WRITE at a place.
@@ -225,6 +192,12 @@ pub fn call_at(s: &[u8]) -> Call
         }
         return Call::MakeGrouped;
     }
+    if call == MAKE_LIMITED {
+        if s.len() < MAKE_LIMITED_LENGTH {
+            return Call::More;
+        }
+        return Call::MakeLimited;
+    }
     if !is_kind(s[1]) {
         return Call::Stop;
     }
@@ -250,6 +223,7 @@ pub fn length_of(c: Call) -> usize
     match c {
         Call::Make => MAKE_LENGTH,
         Call::MakeGrouped => MAKE_GROUPED_LENGTH,
+        Call::MakeLimited => MAKE_LIMITED_LENGTH,
         Call::Apply => ENTRY_LENGTH,
         Call::Read(count) => READ_LENGTH + count as usize,
         Call::Write => ENTRY_LENGTH,
@@ -263,6 +237,7 @@ pub fn is_stop(c: Call) -> bool {
     match c {
         Call::Make => false,
         Call::MakeGrouped => false,
+        Call::MakeLimited => false,
         Call::Apply => false,
         Call::Read(_) => false,
         Call::Write => false,

@@ -2,6 +2,7 @@
 mod calling;
 mod calls;
 mod lines;
+mod makings;
 
 ghost use Rattle.book.specs.rules.Valid.{Valid};
 use book::Book;
@@ -72,7 +73,7 @@ fn call_all(first: Book, bytes: &mut [u8; CALLS], out: &mut [u8; BLOCK])
 fn main() {
     let mut bytes = [0u8; CALLS];
     let mut out = [0u8; BLOCK];
-    let m = book::separate(0);
+    let m = book::separate(0, book::market());
     let made = book::new(m);
     let first = made.book;
     call_all(first, &mut bytes, &mut out);

@@ -15,7 +15,7 @@ use Rattle.book.specs.layouts.Entries.{kindOf}
 use Rattle.book.specs.rules.Kinds.{periodOf, names, isOpen, isReceipt, isSettle, isPurse, purseOf, purseCents}
 use Rattle.book.specs.rules.Periods.{zeros, raised, fresh, leaves}
 use Rattle.book.specs.rules.State.{State, view, pack, heldIn, heldBy, replaced, removed, added, withPurses}
-use Rattle.book.specs.rules.Makings.{makingChecks, made, groupingOf, noGrouping}
+use Rattle.book.specs.rules.Makings.{makingChecks, made, groupingOf, kept, noMaking, emptyState}
 use Rattle.book.specs.rules.Refusals.{Input, checks}
 use Rattle.book.specs.rules.Step.{Outcome, stored, payoutWords, acted, accepted, step, reply}
 use Rattle.book.specs.rules.Valid.{SoundState}
@@ -26,6 +26,7 @@ use Rattle.book.specs.declared.makings.Making.{Making}
 use Rattle.book.proofs.rules.CellLaws.{zeros-at}
 use Rattle.book.proofs.rules.ChangeLaws.{no-pays}
 use Rattle.book.proofs.rules.CentsLaws.{step-cents}
+use Rattle.book.proofs.rules.LimitLaws.{many-places}
 use Rattle.book.proofs.rules.StepLaws.{Opens, Raises, Names, enters, by-kind, step-accepted, step-refused, step-answer, accepted-opens, accepted-raises, accepted-names}
 use Rattle.book.proofs.rules.ValidLaws.{made-fit, step-fit, view-pack}
 use Rattle.book.proofs.rules.WordLaws.{payout-at}
@@ -79,7 +80,7 @@ module _ (s : State) (x : Input) (f : SoundState s) (log : Log) where
 
     raised-inv : Raises s x → Holds (withPurses s (raised (s .purses) (purseOf (x .entry)) (purseCents (x .entry)))) (quiet ∷ log)
     raised-inv o = subst (Inv (s .n) (s .grouping) (s .highest) (s .periods) _) (sym (ledger-more (s .n) R quiet log (purse-other (x .entry) (o .is-purse) .not-settle)))
-        (raises-inv (s .n) (s .highest) (s .periods) (s .purses) (ledger (s .n) R log) inv quiet (o .is-purse) (omega (arith, o .member, f .many, f .purses-size)))
+        (raises-inv (s .n) (s .highest) (s .periods) (s .purses) (ledger (s .n) R log) inv quiet (o .is-purse) (omega (arith, o .member, many-places f, f .purses-size)))
 
     accepted-inv : refusal (checks s x) ≡ 0 → Holds (step s x .state) (logged x (step s x) log)
     unfolding ledger acted
@@ -226,7 +227,7 @@ begun-reached m = record {
   };
 }
   where
-    go : (t : Bool) → MadeWith (m .n) (groupingOf m) (record { n = cond t (m .n) 0; grouping = cond t (groupingOf m) noGrouping; highest = 0; periods = []; purses = zeros places })
+    go : (t : Bool) → MadeWith (m .n) (groupingOf m) (emptyState (cond t (kept m) noMaking))
     go true = inr (refl, refl)
     go false = inl (record { none = refl; no-periods = refl; no-purses = refl })
 

@@ -24,9 +24,10 @@ use Rattle.book.specs.inner.OnePeriod.{Effect, effect, Affects}
 use Rattle.book.specs.declared.entries.Entry.{Entry}
 use Rattle.book.specs.declared.Period.{Period}
 use Rattle.book.specs.declared.Book.{Book}
+use Rattle.book.proofs.rules.LimitLaws.{many-places}
 use Rattle.book.proofs.rules.StepLaws.{stored-leaves, stored-stays}
 use Rattle.book.proofs.rules.WordLaws.{payout-sum}
-use Rattle.book.proofs.records.Packing.{put, stored}
+use Rattle.book.proofs.records.Packing.{renewed, put, stored}
 use Rattle.book.proofs.records.Replies.{reply-refused, accepts}
 use Rattle.book.proofs.records.Named.{Found, foundPeriod, found-in-book, found-checks, found-settles, found-still, held-fits, held-within, Passed, passed-checks, passed-accepted, passed-changes, held-stays, held-leaves, stores}
 
@@ -109,15 +110,7 @@ module _ {b : Book} {e : Entry} {w : List ℕ} {j : ℕ} (f : Found b e w j) whe
         (λ h l. (λ z. record {
           answer = sym (found-checks f) z;
           rounds = 0;
-          book = record {
-            n = n;
-            grouping = grouping;
-            highest = b .highest;
-            count = b .count;
-            held = b .held;
-            periods = (ap (set (b .periods) j) (refused-still h .0) ∙ set-getD (b .periods) j noPeriod) z;
-            purses = refused-still h .1 z;
-          };
+          book = renewed b (b .held) ((ap (set (b .periods) j) (refused-still h .0) ∙ set-getD (b .periods) j noPeriod) z) (refused-still h .1 z);
           words = w;
         })
         ∙ reply-refused (f .valid) e w (λ z. h (sym (found-checks f) ∙ z)))
@@ -162,7 +155,7 @@ module _ {b : Book} {e : Entry} {w : List ℕ} {j : ℕ} (f : Found b e w j) whe
 
   pub found-affects : Affects (b .n) (b .grouping) e (foundPeriod b e) (b .held) w
   found-affects = record {
-    many = f .valid .fit .many;
+    many = many-places (f .valid .fit);
     enough = f .entered .enough;
     not-open = f .not-open;
     not-purse = f .not-purse;

@@ -30,7 +30,7 @@ use Rattle.book.proofs.rules.ValidLaws.{named-changes, view-pack, pack-
 use Rattle.book.proofs.rules.ListLaws.{all-at, find-split}
 use Rattle.book.proofs.rules.CentsLaws.{held-replaced, held-removed}
 use Rattle.book.proofs.rules.DrawingLaws.{settling, settle-finds, settles-passes, by-drawing, after-fit, after-held, after-find, after-length, after-older, after-younger, after-checks, after-names, after-entered}
-use Rattle.book.proofs.records.Packing.{count-is, read-at, kept-held, put, stored}
+use Rattle.book.proofs.records.Packing.{count-is, read-at, kept-held, renewed, put, stored}
 use Rattle.book.proofs.records.Bounds.{held-bound, holds-within}
 use Rattle.book.proofs.records.Replies.{to-period}
 use Rattle.book.specs.inner.Ways.{Entered}
@@ -186,29 +186,13 @@ module _ {b : Book} {e : Entry} {w : List ℕ} {j : ℕ} (f : Found b e w j) whe
   -- a period stored over what was drawn is stored over the one that was there
   pub stored-over : {d : Book} → d ≡ put b j (foundPeriod b e) (b .held) (pursesAfter (view b) e) → (p : Period) (held : ℕ)
       → put d j p held (d .purses) ≡ put b j p held (pursesAfter (view b) e)
-  stored-over q p held = ap (λ (d : Book). put d j p held (d .purses)) q ∙ (λ z. record {
-    n = b .n;
-    grouping = b .grouping;
-    highest = b .highest;
-    count = b .count;
-    held = held;
-    periods = set-set (b .periods) j (foundPeriod b e) p z;
-    purses = pursesAfter (view b) e;
-  })
+  stored-over q p held = ap (λ (d : Book). put d j p held (d .purses)) q ∙ ap (λ (ps : List Period). renewed b held ps (pursesAfter (view b) e)) (set-set (b .periods) j (foundPeriod b e) p)
 
   -- another entry than a settle entry leaves the record
   pub drawn-other : isSettle e ≡ false → b ≡ put b j (foundPeriod b e) (b .held) (pursesAfter (view b) e)
   drawn-other q =
       let still = found-still f (λ t. false≢true (sym q ∙ settling e (periodAt (periodOf e) (view b .periods)) t .0)) in
-      λ z. record {
-        n = b .n;
-        grouping = b .grouping;
-        highest = b .highest;
-        count = b .count;
-        held = b .held;
-        periods = sym (ap (set (b .periods) j) (still .0) ∙ set-getD (b .periods) j noPeriod) z;
-        purses = sym (still .1) z;
-      }
+      λ z. renewed b (b .held) (sym (ap (set (b .periods) j) (still .0) ∙ set-getD (b .periods) j noPeriod) z) (sym (still .1) z)
 
   -- a settle entry moves what it draws into its period
   module _ (settle : isSettle e ≡ true) (o : List ℕ)

@@ -13,10 +13,13 @@ use lib.Seq.{split-at, set-split, set-append-left, set-append-seam, set-at, getD
 use Rattle.exact.proofs.Cases.{cases, le-or-lt}
 use Rattle.settlement.specs.declared.groups.Grouping.{Grouping}
 use Rattle.book.specs.rules.Periods.{fresh, raised}
-use Rattle.book.specs.rules.State.{State, view, pack, mostPeriods, centsHeld, heldBy, find, noPeriod, arrearsBefore, earlierArrears, replaced, removed, added, withPeriods, withPurses}
+use Rattle.book.specs.rules.Limits.{periodPlaces}
+use Rattle.book.specs.rules.State.{State, view, pack, centsHeld, heldBy, find, noPeriod, arrearsBefore, earlierArrears, replaced, removed, added, withPeriods, withPurses}
 use Rattle.book.specs.rules.Valid.{InBook, Valid}
+use Rattle.book.specs.declared.limits.Limits.{Limits}
 use Rattle.book.specs.declared.Period.{Period}
 use Rattle.book.specs.declared.Book.{Book}
+use Rattle.book.proofs.rules.LimitLaws.{few-places}
 use Rattle.book.proofs.rules.ListLaws.{all-at}
 
 found-later : (m : ℕ) (p : Period) {l : List Period} (r : List Period) → (p .number ≡ m → ⊥) → l ≡ p ∷ r → find m l ≡ suc (find m r)
@@ -32,8 +35,8 @@ module _ {b : Book} (v : Valid b) where
   unfolding pack
   count-is = ap (λ (x : Book). x .count) (v .packed)
 
-  pub count-few : b .count ≤ mostPeriods
-  count-few = omega (arith, count-is, v .fit .few)
+  pub count-few : b .count ≤ periodPlaces
+  count-few = omega (arith, count-is, few-places (v .fit))
 
   pub kept-held : centsHeld b ≡ heldBy (view b)
   unfolding pack
@@ -48,14 +51,14 @@ module _ {b : Book} (v : Valid b) where
     read-in-book = subst (InBook (b .n) (b .grouping)) (sym read-at) (all-at (InBook (b .n) (b .grouping)) (view b .periods) k noPeriod (omega (arith, count-is)) (v .fit .each))
 
   -- a place that is not in use
-  pub read-blank : (k : ℕ) → b .count ≤ k → k < mostPeriods → getD (b .periods) k noPeriod ≡ fresh 0
+  pub read-blank : (k : ℕ) → b .count ≤ k → k < periodPlaces → getD (b .periods) k noPeriod ≡ fresh 0
   unfolding pack
   read-blank k h l =
       let ps = view b .periods in
       let e : k ≡ length ps + (k - length ps) = omega (arith, count-is) in
       ap₂ (λ (x : Book) j. getD (x .periods) j noPeriod) (v .packed) e
-      ∙ getD-append-add ps (replicate (mostPeriods - length ps) (fresh 0)) (k - length ps) noPeriod
-      ∙ getD-replicate (mostPeriods - length ps) (k - length ps) (fresh 0) noPeriod (omega (arith, count-is))
+      ∙ getD-append-add ps (replicate (periodPlaces - length ps) (fresh 0)) (k - length ps) noPeriod
+      ∙ getD-replicate (periodPlaces - length ps) (k - length ps) (fresh 0) noPeriod (omega (arith, count-is))
 
   -- what is left from a place on
   view-more : (k : ℕ) → k < b .count → drop k (view b .periods) ≡ getD (b .periods) k noPeriod ∷ drop (k + 1) (view b .periods)
@@ -83,10 +86,10 @@ module _ {b : Book} (v : Valid b) where
         more : k < b .count → find m (drop k (view b .periods)) ≡ suc (find m (drop (k + 1) (view b .periods)))
         more h = found-later m (getD (b .periods) k noPeriod) (drop (k + 1) (view b .periods)) e (view-more k h)
 
-    pub find-nowhere : (m : ℕ) → mostPeriods ≤ k → find m (drop k (view b .periods)) ≡ 0
+    pub find-nowhere : (m : ℕ) → periodPlaces ≤ k → find m (drop k (view b .periods)) ≡ 0
     find-nowhere m h = find-end k m (omega (arith, count-few))
 
-    pub earlier-more : (i m : ℕ) → k < mostPeriods → earlierArrears i m (drop k (view b .periods))
+    pub earlier-more : (i m : ℕ) → k < periodPlaces → earlierArrears i m (drop k (view b .periods))
         ≡ cond (arrearsBefore i m (getD (b .periods) k noPeriod)) true (earlierArrears i m (drop (k + 1) (view b .periods)))
     unfolding earlierArrears
     earlier-more i m l = ⊎-elim
@@ -94,7 +97,7 @@ module _ {b : Book} (v : Valid b) where
         (λ h. rw (view-more k h))
         (le-or-lt (b .count) k)
 
-    pub earlier-end : (i m : ℕ) → mostPeriods ≤ k → earlierArrears i m (drop k (view b .periods)) ≡ false
+    pub earlier-end : (i m : ℕ) → periodPlaces ≤ k → earlierArrears i m (drop k (view b .periods)) ≡ false
     unfolding earlierArrears
     earlier-end i m h = rw (view-end k (omega (arith, count-few)))
 
@@ -134,22 +137,28 @@ slid (y ∷ ys) rest pre x k e =
     )
     (slid ys rest (pre ++ (y ∷ [])) y (length pre + 1) (length-append pre (y ∷ [])))
 
--- a store, a new period, and a period that leaves, in the record; `held` is what the book then holds
-abbrev pub put : Book → ℕ → Period → ℕ → List ℕ → Book
-put b j p held purses = record {
+-- the record with other cents held, in as many periods, and other purses
+abbrev pub renewed : Book → ℕ → List Period → List ℕ → Book
+renewed b held periods purses = record {
   n = b .n;
   grouping = b .grouping;
+  limits = b .limits;
   highest = b .highest;
   count = b .count;
   held = held;
-  periods = set (b .periods) j p;
+  periods = periods;
   purses = purses;
 }
+
+-- a store, a new period, and a period that leaves, in the record; `held` is what the book then holds
+abbrev pub put : Book → ℕ → Period → ℕ → List ℕ → Book
+put b j p held purses = renewed b held (set (b .periods) j p) purses
 
 abbrev pub push : Book → Period → Book
 push b p = record {
   n = b .n;
   grouping = b .grouping;
+  limits = b .limits;
   highest = p .number;
   count = b .count + 1;
   held = b .held;
@@ -161,6 +170,7 @@ abbrev pub drops : Book → ℕ → ℕ → Book
 drops b j held = record {
   n = b .n;
   grouping = b .grouping;
+  limits = b .limits;
   highest = b .highest;
   count = b .count - 1;
   held = held;
@@ -170,68 +180,60 @@ drops b j held = record {
 
 -- cents added to a purse, in the record
 abbrev pub raise : Book → ℕ → ℕ → Book
-raise b i cents = record {
-  n = b .n;
-  grouping = b .grouping;
-  highest = b .highest;
-  count = b .count;
-  held = b .held + cents;
-  periods = b .periods;
-  purses = raised (b .purses) i cents;
-}
+raise b i cents = renewed b (b .held + cents) (b .periods) (raised (b .purses) i cents)
 
 module _ (s : State) where
   put-pack : (j : ℕ) (p : Period) (purses : List ℕ) → j < length (s .periods)
       → put (pack s) j p (heldBy (replaced (withPurses s purses) j p)) purses ≡ pack (replaced (withPurses s purses) j p)
   unfolding pack replaced
   put-pack j p purses h = rw (
-    set-append-left (s .periods) (replicate (mostPeriods - length (s .periods)) (fresh 0)) j p h,
+    set-append-left (s .periods) (replicate (periodPlaces - length (s .periods)) (fresh 0)) j p h,
     ← set-split (s .periods) j p h,
     length-set (s .periods) j p,
   )
 
-  push-pack : (p : Period) → length (s .periods) < mostPeriods → heldBy s ≡ heldBy (added s p) → push (pack s) p ≡ pack (added s p)
+  push-pack : (p : Period) → length (s .periods) < periodPlaces → heldBy s ≡ heldBy (added s p) → push (pack s) p ≡ pack (added s p)
   unfolding pack added
   push-pack p h e =
       let ps = s .periods in
-      let q : mostPeriods - length ps ≡ suc (mostPeriods - (length ps + 1)) = omega arith in
+      let q : periodPlaces - length ps ≡ suc (periodPlaces - (length ps + 1)) = omega arith in
       rw (
         e,
         q,
         length-append ps (p ∷ []),
-        set-append-seam ps (fresh 0) (replicate (mostPeriods - (length ps + 1)) (fresh 0)) p,
-        append-assoc ps (p ∷ []) (replicate (mostPeriods - (length ps + 1)) (fresh 0)),
+        set-append-seam ps (fresh 0) (replicate (periodPlaces - (length ps + 1)) (fresh 0)) p,
+        append-assoc ps (p ∷ []) (replicate (periodPlaces - (length ps + 1)) (fresh 0)),
       )
 
-module _ (n : ℕ) (grouping : Grouping) (highest : ℕ) (purses : List ℕ) (pre ys : List Period) (x : Period) (few : length (pre ++ x ∷ ys) ≤ mostPeriods) where
+module _ (n : ℕ) (grouping : Grouping) (limits : Limits) (highest : ℕ) (purses : List ℕ) (pre ys : List Period) (x : Period) (few : length (pre ++ x ∷ ys) ≤ periodPlaces) where
   count-one : length (pre ++ x ∷ ys) ≡ suc (length pre + length ys)
   count-one = length-append pre (x ∷ ys) ∙ omega arith
 
-  left-rows : set (slide ((pre ++ x ∷ ys) ++ replicate (mostPeriods - length (pre ++ x ∷ ys)) (fresh 0)) (length pre) (length (pre ++ x ∷ ys) - 1 - length pre)) (length (pre ++ x ∷ ys) - 1) (fresh 0)
-      ≡ (pre ++ ys) ++ replicate (mostPeriods - length (pre ++ ys)) (fresh 0)
+  left-rows : set (slide ((pre ++ x ∷ ys) ++ replicate (periodPlaces - length (pre ++ x ∷ ys)) (fresh 0)) (length pre) (length (pre ++ x ∷ ys) - 1 - length pre)) (length (pre ++ x ∷ ys) - 1) (fresh 0)
+      ≡ (pre ++ ys) ++ replicate (periodPlaces - length (pre ++ ys)) (fresh 0)
   left-rows =
-      let r = replicate (mostPeriods - length (pre ++ x ∷ ys)) (fresh 0) in
+      let r = replicate (periodPlaces - length (pre ++ x ∷ ys)) (fresh 0) in
       let e : length (pre ++ x ∷ ys) - 1 - length pre ≡ length ys = omega (arith, count-one) in
       let d : length (pre ++ x ∷ ys) - 1 ≡ length (pre ++ ys) = omega (arith, count-one, length-append pre ys) in
-      let m : mostPeriods - length (pre ++ ys) ≡ suc (mostPeriods - length (pre ++ x ∷ ys)) = omega (arith, count-one, length-append pre ys) in
+      let m : periodPlaces - length (pre ++ ys) ≡ suc (periodPlaces - length (pre ++ x ∷ ys)) = omega (arith, count-one, length-append pre ys) in
       rw (e, d, m, append-assoc pre (x ∷ ys) r)
       (rw (slid ys r pre x (length pre) refl, ← append-assoc pre ys) (set-at (pre ++ ys) _ r (fresh 0) (length (pre ++ ys)) refl))
 
   abbrev with : List Period → State
-  with ps = record { n = n; grouping = grouping; highest = highest; periods = ps; purses = purses }
+  with ps = record { n = n; grouping = grouping; limits = limits; highest = highest; periods = ps; purses = purses }
 
   drops-pack : drops (pack (with (pre ++ x ∷ ys))) (length pre) (heldBy (with (pre ++ ys))) ≡ pack (with (pre ++ ys))
   unfolding pack
   drops-pack =
       let d : length (pre ++ x ∷ ys) - 1 ≡ length (pre ++ ys) = omega (arith, count-one, length-append pre ys) in
-      λ z. record { n = n; grouping = grouping; highest = highest; count = d z; held = heldBy (with (pre ++ ys)); periods = left-rows z; purses = purses }
+      λ z. record { n = n; grouping = grouping; limits = limits; highest = highest; count = d z; held = heldBy (with (pre ++ ys)); periods = left-rows z; purses = purses }
 
 module _ {b : Book} (v : Valid b) where
   pub stored : (j : ℕ) (p : Period) (held : ℕ) (purses : List ℕ) → j < b .count → held ≡ heldBy (replaced (withPurses (view b) purses) j p)
       → put b j p held purses ≡ pack (replaced (withPurses (view b) purses) j p)
   stored j p held purses h e = ap₂ (λ (x : Book) k. put x j p k purses) (v .packed) e ∙ put-pack (view b) j p purses (omega (arith, count-is v))
 
-  pub pushed : (p : Period) → b .count < mostPeriods → heldBy (view b) ≡ heldBy (added (view b) p) → push b p ≡ pack (added (view b) p)
+  pub pushed : (p : Period) → b .count < periodPlaces → heldBy (view b) ≡ heldBy (added (view b) p) → push b p ≡ pack (added (view b) p)
   pushed p h e = ap (λ (x : Book). push x p) (v .packed) ∙ push-pack (view b) p (omega (arith, count-is v)) e
 
   pub dropped : (j held : ℕ) → j < b .count → held ≡ heldBy (removed (view b) j) → drops b j held ≡ pack (removed (view b) j)
@@ -242,7 +244,7 @@ module _ {b : Book} (v : Valid b) where
       let e = split-at ps j noPeriod l in
       ap₂ (λ (x : Book) k. drops x j k) (v .packed) q
       ∙ ap₂ (λ (q : List Period) i. drops (pack (withPeriods (view b) q)) i (heldBy (withPeriods (view b) (take j ps ++ drop (suc j) ps)))) e (sym (length-take-le j ps (omega arith)))
-      ∙ drops-pack (b .n) (b .grouping) (b .highest) (b .purses) (take j ps) (drop (suc j) ps) (getD ps j noPeriod) (subst (λ (q : List Period). length q ≤ mostPeriods) e (v .fit .few))
+      ∙ drops-pack (b .n) (b .grouping) (b .limits) (b .highest) (b .purses) (take j ps) (drop (suc j) ps) (getD ps j noPeriod) (subst (λ (q : List Period). length q ≤ periodPlaces) e (few-places (v .fit)))
 
   pub raised-purse : (i cents : ℕ) → heldBy (withPurses (view b) (raised (b .purses) i cents)) ≡ b .held + cents
       → raise b i cents ≡ pack (withPurses (view b) (raised (b .purses) i cents))
@@ -250,6 +252,7 @@ module _ {b : Book} (v : Valid b) where
   raised-purse i cents e = λ z. record {
     n = b .n;
     grouping = b .grouping;
+    limits = b .limits;
     highest = b .highest;
     count = count-is v z;
     held = sym e z;

@@ -21,6 +21,7 @@ use Rattle.book.specs.rules.Valid.{Sound, SoundState}
 use Rattle.book.specs.inner.Ways.{Entered}
 use Rattle.book.specs.declared.entries.Entry.{Entry}
 use Rattle.book.specs.declared.Period.{Period}
+use Rattle.book.proofs.rules.LimitLaws.{many-places}
 use Rattle.book.proofs.rules.CellLaws.{raised-sum}
 use Rattle.book.proofs.rules.ChangeLaws.{Changes, no-pays}
 use Rattle.book.proofs.rules.DrawingLaws.{after-fit, after-names, after-entered, after-held}
@@ -109,7 +110,7 @@ module _ (s : State) (x : Input) (f : SoundState s) where
 
   pub raised-held : Raises s x → heldBy (withPurses s (raised (s .purses) (purseOf (x .entry)) (purseCents (x .entry)))) ≡ heldBy s + purseCents (x .entry)
   unfolding heldBy
-  raised-held o = omega (arith, raised-sum (s .purses) (purseOf (x .entry)) (purseCents (x .entry)) (omega (arith, o .member, f .many, f .purses-size)) n (o .member))
+  raised-held o = omega (arith, raised-sum (s .purses) (purseOf (x .entry)) (purseCents (x .entry)) (omega (arith, o .member, many-places f, f .purses-size)) n (o .member))
 
   raised-cents : Raises s x → heldBy (withPurses s (raised (s .purses) (purseOf (x .entry)) (purseCents (x .entry)))) + sum (at (payoutWords (s .n) (zeros places) (x .words))) (s .n)
       ≡ heldBy s + centsIn (x .entry)

@@ -20,6 +20,7 @@ use Rattle.book.specs.declared.Stage.the-variants.{Noticed}
 use Rattle.book.specs.declared.entries.Entry.{Entry}
 use Rattle.book.specs.declared.Period.{Period}
 use Rattle.book.proofs.layouts.EntryLaws.{of-kind}
+use Rattle.book.proofs.rules.LimitLaws.{many-places}
 use Rattle.book.proofs.rules.Passing.{noticed-stage, settle-passes}
 use Rattle.book.proofs.rules.KindLaws.{settle-not-receipt}
 use Rattle.book.proofs.rules.ListLaws.{all-join, all-left, all-right, find-split, take-replaced, drop-replaced, find-replaced, period-replaced, held-join}
@@ -132,12 +133,13 @@ module _ (s : State) (e : Entry) (f : SoundState s) (found : find (periodOf e) (
   unfolding replaced
   after-fit = by-drawing s e (λ ps purses. SoundState (withPurses (withPeriods s ps) purses))
       (λ q. record {
+        limited = f .limited;
         many = f .many;
         few = omega (arith, f .few, sizes);
         grouped = f .grouped;
         each = all-join (InBook (s .n) (s .grouping)) older (p′ ∷ younger) (all-left (InBook (s .n) (s .grouping)) older (p ∷ younger) split)
             (moved-in-book (s .n) (drawnFrom s p) p (settling e p q .1) (λ i _. drawn-unpaid s p i) in-book, all-right (InBook (s .n) (s .grouping)) older (p ∷ younger) split .1);
-        purses-size = left-length (s .n) (drawnFrom s p) (s .purses) (f .many);
+        purses-size = left-length (s .n) (drawnFrom s p) (s .purses) (many-places f);
         purse-le = λ i h. omega (arith, left-at (s .n) (drawnFrom s p) (s .purses) i h, f .purse-le i h);
       })
       (λ _. f)

@@ -14,7 +14,7 @@ use Rattle.book.specs.Checks.{refusal}
 use Rattle.book.specs.layouts.Allowed.{allowed}
 use Rattle.book.specs.rules.Kinds.{periodOf, isOpen, isPurse, purseOf, purseCents}
 use Rattle.book.specs.rules.Periods.{leaves}
-use Rattle.book.specs.rules.State.{State, mostPeriods, find, periodAt, replaced, removed}
+use Rattle.book.specs.rules.State.{State, find, periodAt, replaced, removed}
 use Rattle.book.specs.rules.Purses.{purseLimit, afterDrawing}
 use Rattle.book.specs.rules.Refusals.{Input, periodChecks, barring, openChecks, purseChecks, namedChecks, kindChecks, checks}
 use Rattle.book.specs.rules.Step.{Outcome, stored, opened, purseRaised, acted, accepted, refused, step}
@@ -27,7 +27,7 @@ module _ (s : State) (x : Input) where
   pub record Opens : Type 0 where
     pub is-open : isOpen (x .entry) ≡ true
     pub above : s .highest < periodOf (x .entry)
-    pub room : length (s .periods) < mostPeriods
+    pub room : length (s .periods) < s .limits .periods
 
   pub record Raises : Type 0 where
     pub not-open : isOpen (x .entry) ≡ false
@@ -57,7 +57,7 @@ module _ (s : State) (x : Input) where
   pub opens : isOpen (x .entry) ≡ true → refusal (openChecks s (periodOf (x .entry))) ≡ 0 → Opens
   opens q e =
       let f = all-pass (openChecks s (periodOf (x .entry))) refl e in
-      record { is-open = q; above = leb-false (periodOf (x .entry)) (s .highest) (f .0); room = leb-false mostPeriods (length (s .periods)) (f .1 .0) }
+      record { is-open = q; above = leb-false (periodOf (x .entry)) (s .highest) (f .0); room = leb-false (s .limits .periods) (length (s .periods)) (f .1 .0) }
 
   pub raises : isOpen (x .entry) ≡ false → isPurse (x .entry) ≡ true → refusal (purseChecks s (purseOf (x .entry)) (purseCents (x .entry))) ≡ 0 → Raises
   raises o q e =

@@ -20,9 +20,10 @@ use Rattle.settlement.specs.declared.groups.Grouping.{Grouping}
 use Rattle.book.specs.Checks.{refusal}
 use Rattle.book.specs.rules.Kinds.{periodOf, isOpen, isPurse, isAmount, isNotice, isReceipt, isSettle, receiptCents, purseOf, purseCents}
 use Rattle.book.specs.rules.Periods.{isOpened, isSettled, zeros, raised, holds, sideTotal, fresh, leaves, Change, changed, withLateReceipt}
-use Rattle.book.specs.rules.State.{State, view, pack, mostPeriods, find, periodAt, replaced, removed, added, withPurses}
+use Rattle.book.specs.rules.Limits.{periodPlaces, market, UpTo}
+use Rattle.book.specs.rules.State.{State, view, pack, find, periodAt, replaced, removed, added, withPurses}
 use Rattle.book.specs.rules.Purses.{purseLimit, afterDrawing}
-use Rattle.book.specs.rules.Makings.{makingChecks, groupingOf, noGrouping, made}
+use Rattle.book.specs.rules.Makings.{makingChecks, kept, noMaking, made}
 use Rattle.book.specs.rules.Refusals.{Input, checks}
 use Rattle.book.specs.rules.Step.{Outcome, stored, acted, accepted, step, reply}
 use Rattle.book.specs.rules.Valid.{All, InBook, SoundState, Valid, StaysValid, RefusalChangesNothing, RoundsOfSettlements}
@@ -32,8 +33,9 @@ use Rattle.book.specs.declared.Period.{Period}
 use Rattle.book.proofs.rules.CellLaws.{zeros-length, zeros-at, zeros-over, raised-length, raised-at}
 use Rattle.book.proofs.rules.ChangeLaws.{Changes, no-pays}
 use Rattle.book.proofs.rules.EntryChanges.{entry-changes, entry-row}
+use Rattle.book.proofs.rules.LimitLaws.{many-places}
 use Rattle.book.proofs.rules.ListLaws.{all-join, all-left, all-right, find-split}
-use Rattle.book.proofs.rules.MakingLaws.{accepted-few, accepted-grouped}
+use Rattle.book.proofs.rules.MakingLaws.{accepted-limited, accepted-many, accepted-grouped}
 use Rattle.book.proofs.rules.StepLaws.{Opens, Raises, Names, enters, by-kind, step-accepted, step-refused, accepted-opens, accepted-raises, accepted-names, step-answer}
 use Rattle.book.proofs.rules.DrawingLaws.{after-fit, after-names, after-entered}
 use Rattle.book.specs.inner.Ways.{Entered}
@@ -102,6 +104,7 @@ module _ (s : State) (x : Input) (f : SoundState s) (i : Entered s x) (o : Names
       let right = all-right (InBook (s .n) (s .grouping)) older (named ∷ younger) split .1 in
       cases SoundState (leaves (s .n) p′)
       (λ _. record {
+        limited = f .limited;
         many = f .many;
         grouped = f .grouped;
         few = omega (arith, f .few, sizes, length-append older younger);
@@ -110,6 +113,7 @@ module _ (s : State) (x : Input) (f : SoundState s) (i : Entered s x) (o : Names
         purse-le = f .purse-le;
       })
       (λ q. record {
+        limited = f .limited;
         many = f .many;
         grouped = f .grouped;
         few = omega (arith, f .few, sizes, length-append older (p′ ∷ younger));
@@ -128,10 +132,11 @@ module _ (s : State) (x : Input) (f : SoundState s) where
   opened-fit o =
       let p = fresh (periodOf (x .entry)) in
       record {
+        limited = f .limited;
         many = f .many;
         grouped = f .grouped;
         few = omega (arith, length-append (s .periods) (p ∷ []), o .room);
-        each = all-join (InBook (s .n) (s .grouping)) (s .periods) (p ∷ []) (f .each) (fresh-in-book (s .n) (s .grouping) (periodOf (x .entry)) (f .many), tt);
+        each = all-join (InBook (s .n) (s .grouping)) (s .periods) (p ∷ []) (f .each) (fresh-in-book (s .n) (s .grouping) (periodOf (x .entry)) (many-places f), tt);
         purses-size = f .purses-size;
         purse-le = f .purse-le;
       }
@@ -141,12 +146,13 @@ module _ (s : State) (x : Input) (f : SoundState s) where
       let i = purseOf (x .entry) in
       let c = purseCents (x .entry) in
       record {
+        limited = f .limited;
         many = f .many;
         grouped = f .grouped;
         few = f .few;
         each = f .each;
         purses-size = raised-length (s .purses) i c ∙ f .purses-size;
-        purse-le = λ j h. rw (raised-at (s .purses) i c (omega (arith, o .member, f .many, f .purses-size)) j)
+        purse-le = λ j h. rw (raised-at (s .purses) i c (omega (arith, o .member, many-places f, f .purses-size)) j)
             (cases-eq (λ z. z + at (s .purses) j ≤ purseLimit) i j (λ e. subst (λ k. c + at (s .purses) k ≤ purseLimit) e (omega (arith, o .fits))) (λ _. omega (arith, f .purse-le j h)));
       }
 
@@ -171,8 +177,9 @@ unfolding pack
 view-pack s = λ z. record {
   n = s .n;
   grouping = s .grouping;
+  limits = s .limits;
   highest = s .highest;
-  periods = take-append-seam (s .periods) (replicate (mostPeriods - length (s .periods)) (fresh 0)) z;
+  periods = take-append-seam (s .periods) (replicate (periodPlaces - length (s .periods)) (fresh 0)) z;
   purses = s .purses;
 }
 
@@ -182,19 +189,26 @@ pack-valid s f = record { packed = ap pack (sym (view-pack s)); fit = subst Soun
 pub made-fit : (m : Making) → SoundState (made m .state)
 unfolding made
 made-fit m = record {
-  many = cases-eq (λ z. z ≤ places) (refusal (makingChecks m)) 0
-      (accepted-few m)
-      (λ _. omega arith);
+  limited = fits .0;
+  many = fits .1;
   few = omega arith;
-  grouped = go (eqb (refusal (makingChecks m)) 0) refl;
+  grouped = fits .2;
   each = tt;
   purses-size = zeros-length places;
   purse-le = λ i _. omega (arith, zeros-at places i);
 }
   where
-    go : (t : Bool) → eqb (refusal (makingChecks m)) 0 ≡ t → groupingAllowed (cond t (m .n) 0) (cond t (groupingOf m) noGrouping) ≡ true
-    go true q = accepted-grouped m (eqb-true (refusal (makingChecks m)) 0 q)
-    go false q = grouping-allowed 0 noGrouping (λ i h. absurd (omega arith)) (λ k _. omega (arith, zeros-at groupCount k))
+    Fits : Making → Type 0
+    Fits k = UpTo market (k .limits) × (k .n ≤ k .limits .participants) × (groupingAllowed (k .n) (k .grouping) ≡ true)
+
+    fits : Fits (cond (eqb (refusal (makingChecks m)) 0) (kept m) noMaking)
+    fits = cases Fits (eqb (refusal (makingChecks m)) 0)
+        (λ q. let e = eqb-true (refusal (makingChecks m)) 0 q in (accepted-limited m e, accepted-many m e, accepted-grouped m e))
+        (λ _. (
+          record { participants = omega arith; periods = omega arith },
+          omega arith,
+          grouping-allowed 0 (noMaking .grouping) (λ i h. absurd (omega arith)) (λ k _. omega (arith, zeros-at groupCount k)),
+        ))
 
 pub stays-valid : StaysValid
 unfolding reply

@@ -6,7 +6,8 @@ use Rattle.book.specs.history.Log.{retention}
 use Rattle.book.specs.rules.Refusals.{Input}
 use Rattle.book.specs.history.Demand3.{History, begun, next, after, Clauses}
 use Rattle.book.specs.runs.RunDemand3.{Block, entriesIn, Work, afterRun, afterWork, afterAll, RunDemand3}
-use Rattle.book.specs.runs.BlockRuns.{replies, bookAfter}
+use Rattle.book.specs.rules.Step.{replies}
+use Rattle.book.specs.runs.BlockRuns.{bookAfter}
 use Rattle.book.proofs.runs.RunReplies.{ran-replies}
 use Rattle.book.proofs.history.Demand3.{demand3}
 

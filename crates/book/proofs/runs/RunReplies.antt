@@ -14,12 +14,12 @@ use Rattle.book.specs.layouts.Reading.{reading}
 use Rattle.book.specs.rules.State.{view, pack}
 use Rattle.book.specs.rules.Makings.{makingChecks, made}
 use Rattle.book.specs.rules.Refusals.{Input}
-use Rattle.book.specs.rules.Step.{Reply, reply, paidBy}
+use Rattle.book.specs.rules.Step.{Reply, reply, paidBy, replies}
 use Rattle.book.specs.runs.Running.{Run, lineOf, stopped, lined, run, inputsOf}
 use Rattle.book.specs.history.Log.{Accepted, Log, moneyPaid}
 use Rattle.book.specs.history.Demand3.{History, begun, next, after}
 use Rattle.book.specs.runs.RunDemand3.{Block, ran, entriesIn, afterRun, Work, afterWork, afterAll}
-use Rattle.book.specs.runs.BlockRuns.{replies, bookAfter, wordsAfter, linesOf, paidWords, total, RunOf, paidAt, paidOver}
+use Rattle.book.specs.runs.BlockRuns.{bookAfter, wordsAfter, linesOf, paidWords, total, RunOf, paidAt, paidOver}
 use Rattle.book.specs.declared.makings.Making.{Making}
 use Rattle.book.specs.declared.Book.{Book}
 use Rattle.book.proofs.rules.StepLaws.{enters, step-answer}
@@ -178,5 +178,5 @@ module _ (n : ℕ) where
 pub begun-paid : (m : Making) (work : List Work) → moneyPaid (m .n) (afterAll (begun m) work .log) ≡ paidOver (begun m) work
 unfolding begun made pack moneyPaid
 begun-paid m work =
-    let sized = cases-eq (λ z. (z ≡ 0) ⊎ (z ≡ m .n)) (refusal (makingChecks m)) 0 (λ _. inr refl) (λ _. inl refl) in
+    let sized = cases-eq (λ (k : Making). (k .n ≡ 0) ⊎ (k .n ≡ m .n)) (refusal (makingChecks m)) 0 (λ _. inr refl) (λ _. inl refl) in
     omega (arith, all-paid (m .n) (begun m) work sized)

@@ -16,7 +16,7 @@ use Rattle.book.specs.Checks.{refusal}
 use Rattle.book.specs.rules.Kinds.{periodOf, isOpen, isPurse, addition, purseOf, purseCents}
 use Rattle.book.specs.rules.Periods.{zeros, fresh, withAddition}
 use Rattle.book.specs.layouts.Reading.{ReadOutcome, reading}
-use Rattle.book.specs.rules.State.{view, pack, mostPeriods, noPeriod, added}
+use Rattle.book.specs.rules.State.{view, pack, noPeriod, added}
 use Rattle.book.specs.rules.Purses.{purseLimit}
 use Rattle.book.specs.rules.Refusals.{Input, barring, periodChecks, checks}
 use Rattle.book.specs.rules.Step.{payoutWords, opened, reply, paidBy}
@@ -140,9 +140,9 @@ module _ {b : Book} (v : Valid b) (e : Entry) (words lines : List ℕ) (wrote : 
         let paid : 0 ≡ sum (at words′) (b .n) = omega (arith, ap (λ (w : List ℕ). sum (at w) (b .n)) y, payout-sum (b .n) (zeros places) words, no-pays (b .n)) in
         rw (← r, ← paid) (refl, refl, refl, l)
 
--- an opening that is accepted has its payout words and a place
+-- an opening that is accepted has its payout words, and the book has room for it
 pub opens-fits : {b : Book} {bytes : List ℕ} {place k next : ℕ} → Valid b → (words : List ℕ) (a : ReadAt b bytes place (length words) (way.Opens k next))
-    → (b .n ≤ length words) × (length (view b .periods) < mostPeriods)
+    → (b .n ≤ length words) × (length (view b .periods) < b .limits .periods)
 opens-fits {b} v words a =
     let x : Input = record { entry = a .entry; words = words } in
     let z = a .takes .3 words refl in

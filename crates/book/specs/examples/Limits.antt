@@ -8,6 +8,7 @@ use lib.ListN.{length, take, replicate}
 use Rattle.exact.specs.Energy.{energyCents}
 use Rattle.book.specs.layouts.Reading.{reading}
 use Rattle.book.specs.layouts.Writing.{writing, written}
+use Rattle.book.specs.rules.Limits.{market}
 use Rattle.book.specs.rules.State.{State}
 use Rattle.book.specs.rules.Makings.{made, separate}
 use Rattle.book.specs.rules.Step.{step}
@@ -30,7 +31,7 @@ of3 first l = answersOf (stateAfter (book 3) lent first) lent l
 
 -- a making of n participants with their group numbers, and the reserves of the first groups; all others are 0
 abbrev pub making : ℕ → List ℕ → List ℕ → Making
-making n groups reserves = record { n = n; grouping = record { groups = groups; reserves = reserves } }
+making n groups reserves = record { n = n; grouping = record { groups = groups; reserves = reserves }; limits = market }
 
 abbrev pub opened : List Entry
 opened = Open 1 ∷ []
@@ -126,8 +127,8 @@ pub record ByteLimits : Type 0 where
 -- sizes, sums and stages of the book (01, The month's sums to Late money, and Refused), by the refusal's number
 pub record BookLimits : Type 0 where
   -- 4: n is 1 to 64
-  pub least-n : (made (separate 1) .answer ≡ 0) × (made (separate 0) .answer ≡ 4)
-  pub most-n : (made (separate 64) .answer ≡ 0) × (made (separate 65) .answer ≡ 4)
+  pub least-n : (made (separate 1 market) .answer ≡ 0) × (made (separate 0 market) .answer ≡ 4)
+  pub most-n : (made (separate 64 market) .answer ≡ 0) × (made (separate 65 market) .answer ≡ 4)
   -- 3: group numbers are 0 to 63; those of participants that the book does not have are not looked at
   pub most-group : (made (making 2 (0 ∷ 63 ∷ []) []) .answer ≡ 0) × (made (making 2 (0 ∷ 64 ∷ []) []) .answer ≡ 3)
   pub groups-past-n : made (making 2 (0 ∷ 63 ∷ 64 ∷ []) []) ≡ made (making 2 (0 ∷ 63 ∷ []) [])

@@ -8,6 +8,7 @@ use lib.Dec.{eqb}
 use lib.ListN.{replicate}
 use Rattle.exact.specs.Rows.{at, sum, table}
 use Rattle.book.specs.rules.State.{State, heldBy}
+use Rattle.book.specs.rules.Limits.{market}
 use Rattle.book.specs.rules.Makings.{made, separate}
 use Rattle.book.specs.rules.Step.{Outcome, step}
 use Rattle.book.specs.declared.makings.Making.{Making}
@@ -42,7 +43,7 @@ stateAfter s words [] = s
 stateAfter s words (e ∷ l) = stateAfter (step s (record { entry = e; words = words }) .state) words l
 
 abbrev pub book : ℕ → State
-book n = made (separate n) .state
+book n = made (separate n market) .state
 
 abbrev pub answers : List Line → List ℕ
 answers [] = []
@@ -90,7 +91,7 @@ listingB =
 
 -- 0 and 2 are related, in group 63, which has this reserve
 abbrev pub related : ℕ → Making
-related reserve = record { n = 4; grouping = record { groups = 63 ∷ 1 ∷ 63 ∷ 3 ∷ replicate 60 0; reserves = replicate 63 0 ++ reserve ∷ [] } }
+related reserve = record { n = 4; grouping = record { groups = 63 ∷ 1 ∷ 63 ∷ 3 ∷ replicate 60 0; reserves = replicate 63 0 ++ reserve ∷ [] }; limits = market }
 
 -- owing by 0: 600, by 2: 100, by 3: 300; owing to 1: tier 1 100, tier 5 700, to 2: tier 5 200. Payable are 600, 0, 43 and 300,
 -- with a reserve of 100 they are 600, 0, 72 and 300, and with groups of one 600, 0, 34 and 300

@@ -3,6 +3,7 @@ use Prim.Native.Nat.{ℕ}
 use mathlib.Core.Path.{_≡_}
 use mathlib.Core.List.{List, [], _∷_, _++_}
 use lib.ListN.{take}
+use Rattle.book.specs.rules.Limits.{market}
 use Rattle.book.specs.rules.Makings.{separate}
 use Rattle.book.specs.history.Log.{Accepted, Log, Account, account, purse, moneyReceived, moneyPaid, retention}
 use Rattle.book.specs.history.Demand3.{moneyHeld}
@@ -64,7 +65,7 @@ barredLog = record { entry = Settle 1; words = 0 ∷ 100 ∷ [] } ∷ logged (in
 
 -- retention in a book of n in groups of one, by an account
 abbrev pub retained : ℕ → Account → ℕ → ℕ
-retained n = retention n (separate n .grouping)
+retained n = retention n (separate n market .grouping)
 
 pub record PurseExamples : Type 0 where
   -- a purse that covers part, all, and more than what is unpaid

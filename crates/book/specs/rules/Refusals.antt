@@ -1,4 +1,4 @@
--- The book's refusals, 3 to 16, in 01's order (01, Refused, by whoever causes it; 02, c and e).
+-- The book's refusals, 3 to 16, in 01's order (01, Refused, by whoever causes it; 02, c, e and f).
 use Prim.Native.Nat.{ℕ, _+_, _-_}
 use mathlib.Core.Bool.{Bool, false, cond, not}
 use mathlib.Core.List.{List, [], _∷_}
@@ -10,7 +10,7 @@ use Rattle.book.specs.Checks.{Check, on}
 use Rattle.book.specs.layouts.Allowed.{allowed}
 use Rattle.book.specs.rules.Kinds.{periodOf, isOpen, isPurse, isAmount, isNotice, isReceipt, isSettle, addition, misdated, payerOf, receiptCents, purseOf, purseCents}
 use Rattle.book.specs.rules.Periods.{isOpened, isNoticed, isSettled, sideTotal}
-use Rattle.book.specs.rules.State.{State, mostPeriods, find, periodAt, earlierArrears}
+use Rattle.book.specs.rules.State.{State, find, periodAt, earlierArrears}
 use Rattle.book.specs.rules.Purses.{purseLimit}
 use Rattle.book.specs.declared.entries.Entry.{Entry}
 use Rattle.book.specs.declared.kinds.Addition.{Addition}
@@ -67,9 +67,9 @@ periodChecks n barred e p =
     (cond (isReceipt e) (receiptChecks n barred p (payerOf e) (receiptCents e))
     (cond (isSettle e) (settleChecks p) [])))
 
--- kind 1: 6, 7
+-- kind 1: 6, 7 where as many periods as the book's limit are in it (02, f)
 abbrev pub openChecks : State → ℕ → List Check
-openChecks s k = on (leb k (s .highest)) 6 ∷ on (leb mostPeriods (length (s .periods))) 7 ∷ []
+openChecks s k = on (leb k (s .highest)) 6 ∷ on (leb (s .limits .periods) (length (s .periods))) 7 ∷ []
 
 -- kind 7: 12, 15
 abbrev pub purseChecks : State → ℕ → ℕ → List Check

@@ -6,20 +6,19 @@ use lib.Dec.{eqb, ltb}
 use lib.ListN.{getD, length, take, drop, replicate}
 use Rattle.exact.specs.Rows.{at, sum}
 use Rattle.settlement.specs.declared.groups.Grouping.{Grouping}
+use Rattle.book.specs.rules.Limits.{periodPlaces}
 use Rattle.book.specs.rules.Periods.{isSettled, fresh, holds}
+use Rattle.book.specs.declared.limits.Limits.{Limits}
 use Rattle.book.specs.declared.Stage.the-variants.{Opened}
 use Rattle.book.specs.declared.Period.{Period}
 use Rattle.book.specs.declared.Book.{Book}
 
--- the most periods in a book (01, The month's sums)
-abbrev pub mostPeriods : ℕ
-mostPeriods = 12
-
--- n participants, their groups with the groups' reserves, the highest period ever opened, the periods in the book, oldest
--- first, and each participant's purse (02, c)
+-- n participants, their groups with the groups' reserves, the book's limits (02, f), the highest period ever opened, the
+-- periods in the book, oldest first, and each participant's purse (02, c)
 pub record State : Type 0 where
   pub n : ℕ
   pub grouping : Grouping
+  pub limits : Limits
   pub highest : ℕ
   pub periods : List Period
   pub purses : List ℕ
@@ -35,17 +34,25 @@ heldBy s = heldIn (s .n) (s .periods) + sum (at (s .purses)) (s .n)
 
 -- the state that a record stands for ..
 abbrev pub view : Book → State
-view b = record { n = b .n; grouping = b .grouping; highest = b .highest; periods = take (b .count) (b .periods); purses = b .purses }
+view b = record {
+  n = b .n;
+  grouping = b .grouping;
+  limits = b .limits;
+  highest = b .highest;
+  periods = take (b .count) (b .periods);
+  purses = b .purses;
+}
 
 -- .. and the record of a state: nothing in it is free
 unfoldable pub pack : State → Book
 pack s = record {
   n = s .n;
   grouping = s .grouping;
+  limits = s .limits;
   highest = s .highest;
   count = length (s .periods);
   held = heldBy s;
-  periods = s .periods ++ replicate (mostPeriods - length (s .periods)) (fresh 0);
+  periods = s .periods ++ replicate (periodPlaces - length (s .periods)) (fresh 0);
   purses = s .purses;
 }
 
@@ -94,10 +101,10 @@ earlierArrears i k [] = false
 earlierArrears i k (p ∷ ps) = cond (arrearsBefore i k p) true (earlierArrears i k ps)
 
 abbrev pub withPeriods : State → List Period → State
-withPeriods s ps = record { n = s .n; grouping = s .grouping; highest = s .highest; periods = ps; purses = s .purses }
+withPeriods s ps = record { n = s .n; grouping = s .grouping; limits = s .limits; highest = s .highest; periods = ps; purses = s .purses }
 
 abbrev pub withPurses : State → List ℕ → State
-withPurses s purses = record { n = s .n; grouping = s .grouping; highest = s .highest; periods = s .periods; purses = purses }
+withPurses s purses = record { n = s .n; grouping = s .grouping; limits = s .limits; highest = s .highest; periods = s .periods; purses = purses }
 
 -- the period at place j replaced by another
 unfoldable pub replaced : State → ℕ → Period → State
@@ -109,4 +116,4 @@ removed s j = withPeriods s (take j (s .periods) ++ drop (suc j) (s .periods))
 
 -- one more period, the last, whose number is then the highest
 unfoldable pub added : State → Period → State
-added s p = record { n = s .n; grouping = s .grouping; highest = p .number; periods = s .periods ++ (p ∷ []); purses = s .purses }
+added s p = record { n = s .n; grouping = s .grouping; limits = s .limits; highest = p .number; periods = s .periods ++ (p ∷ []); purses = s .purses }

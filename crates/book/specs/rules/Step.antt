@@ -1,7 +1,7 @@
 -- What an entry does to the book: the answer, the rounds, the new book and the payout words.
 use Prim.Native.Nat.{ℕ}
 use mathlib.Core.Bool.{cond}
-use mathlib.Core.List.{List}
+use mathlib.Core.List.{List, [], _∷_}
 use lib.Dec.{eqb}
 use Rattle.exact.specs.Rows.{places, at, sum, filled}
 use Rattle.book.specs.Checks.{refusal}
@@ -81,6 +81,11 @@ reply b x = record {
   book = pack (step (view b) x .state);
   words = step (view b) x .words;
 }
+
+-- the replies to entries, each applied to the book that the one before it handed back
+unfoldable pub replies : Book → List Input → List Reply
+replies b [] = []
+replies b (x ∷ inputs) = reply b x ∷ replies (reply b x .book) inputs
 
 -- the cents that an entry paid n participants; a refused one pays nothing
 unfoldable pub paidBy : ℕ → Reply → ℕ

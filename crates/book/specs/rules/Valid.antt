@@ -11,7 +11,8 @@ use Rattle.settlement.specs.Groups.{groupingAllowed, noticed}
 use Rattle.settlement.specs.declared.groups.Grouping.{Grouping}
 use Rattle.book.specs.rules.Kinds.{isSettle}
 use Rattle.book.specs.rules.Periods.{monthOf, sideTotal, leaves}
-use Rattle.book.specs.rules.State.{State, view, pack, mostPeriods}
+use Rattle.book.specs.rules.Limits.{market, UpTo}
+use Rattle.book.specs.rules.State.{State, view, pack}
 use Rattle.book.specs.rules.Purses.{purseLimit}
 use Rattle.book.specs.rules.Makings.{made}
 use Rattle.book.specs.rules.Refusals.{Input}
@@ -72,9 +73,11 @@ pub record InBook (n : ℕ) (grouping : Grouping) (p : Period) : Type 0 where
   pub stays : leaves n p ≡ false
   pub row : p .stage ≡ Noticed → p .payable ≡ noticed (monthOf n p) grouping .payable
 
+-- n and the periods in the book are within the book's limits, whatever these are, up to the market's (02, f)
 pub record SoundState (s : State) : Type 0 where
-  pub many : s .n ≤ places
-  pub few : length (s .periods) ≤ mostPeriods
+  pub limited : UpTo market (s .limits)
+  pub many : s .n ≤ s .limits .participants
+  pub few : length (s .periods) ≤ s .limits .periods
   pub grouped : groupingAllowed (s .n) (s .grouping) ≡ true
   pub each : All (InBook (s .n) (s .grouping)) (s .periods)
   pub purses-size : length (s .purses) ≡ places

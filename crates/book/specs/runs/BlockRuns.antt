@@ -7,18 +7,13 @@ use lib.ListN.{length}
 use Rattle.exact.specs.Rows.{at, sum}
 use Rattle.book.specs.layouts.Reading.{reading}
 use Rattle.book.specs.rules.Refusals.{Input}
-use Rattle.book.specs.rules.Step.{Reply, reply, paidBy}
+use Rattle.book.specs.rules.Step.{Reply, reply, replies, paidBy}
 use Rattle.book.specs.runs.Running.{Run, lineOf}
 use Rattle.book.specs.history.Log.{moneyPaid}
 use Rattle.book.specs.history.Demand3.{History, begun}
 use Rattle.book.specs.runs.RunDemand3.{Block, ran, entriesIn, afterRun, Work, afterWork, afterAll, RunDemand3}
 use Rattle.book.specs.declared.makings.Making.{Making}
 use Rattle.book.specs.declared.Book.{Book}
-
--- the replies to entries, each applied to the book that the one before it handed back
-unfoldable pub replies : Book → List Input → List Reply
-replies b [] = []
-replies b (x ∷ inputs) = reply b x ∷ replies (reply b x .book) inputs
 
 -- the first entry is lent these payout words, and each later one those that the one before it left
 abbrev pub Lent : Book → List ℕ → List Input → Type 0

@@ -3,7 +3,7 @@ use Prim.Native.Nat.{ℕ, _≤_, _<_, min}
 use mathlib.Core.Path.{_≡_}
 use mathlib.Core.Bool.{Bool, true, cond}
 use mathlib.Core.List.{List, []}
-use lib.ListN.{length, getD, drop}
+use lib.ListN.{length, drop}
 use Rattle.text.specs.Puts.{Puts}
 use Rattle.text.specs.Streams.{most, isEnded, isFailed}
 use Rattle.text.specs.declared.streams.Last.{Last}
@@ -13,9 +13,8 @@ use Rattle.text.specs.declared.streams.Output.{Output}
 use Rattle.book.specs.layouts.Reading.{reading}
 use Rattle.book.specs.rules.Valid.{Valid}
 use Rattle.book.specs.rules.Words.{AgreeFrom}
-use Rattle.book.specs.declared.Book.{Book}
 use Rattle.lister.specs.Lines.{header}
-use Rattle.lister.specs.Listing.{lent, bookFor}
+use Rattle.lister.specs.Listing.{lent}
 use Rattle.lister.specs.Pieces.{Stand, Lists}
 use Rattle.lister.specs.Turns.{waiting, Goes}
 use Rattle.lister.specs.declared.ends.End.{End}
@@ -62,14 +61,13 @@ pub record BlockListed (feed : List ℕ) (a : Standing) (ended : Bool) (out : Li
 abbrev pub whyEnded : Last → End
 whyEnded l = cond (isFailed l) NotRead (cond (isEnded l) Input Unread)
 
--- a listing begins: the header was handed over and written, n and what follows it in the block was read, the book is made
--- for n, and the payout words are as first lent
-pub record Begun (first : Book) (read : Fetched) (o : Output) (feed words : List ℕ) : Type 0 where
+-- a listing begins: the header was handed over and written, n and what follows it in the block was read, and the payout words
+-- are as first lent
+pub record Begun (read : Fetched) (o : Output) (feed words : List ℕ) : Type 0 where
   pub some : 0 < read .filled
   pub within : read .filled ≤ length feed
   pub read-counted : read .input .total ≡ min (read .filled) most
   pub brought : read .input .last ≡ More
   pub header-counted : o .total ≡ length header
   pub header-written : o .all ≡ true
-  pub book : first ≡ bookFor (getD feed 0 0)
   pub as-lent : words ≡ lent

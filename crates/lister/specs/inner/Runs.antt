@@ -4,6 +4,7 @@ use mathlib.Core.Bool.{cond}
 use mathlib.Core.List.{List, [], _++_}
 use lib.Dec.{eqb}
 use lib.ListN.{getD}
+use Rattle.exact.specs.Rows.{places}
 use Rattle.text.specs.Numbers.{numberRoom}
 use Rattle.lister.specs.Lines.{entryLine, payLines}
 
@@ -27,4 +28,4 @@ lastPaid lines count = cond (eqb count 0) 0 (getD lines ((count - 1) * 3 + 1) 0)
 
 -- the lines of a run's entries and, where the last of them has paid, those of its payouts
 unfoldable pub runLines : ℕ → List ℕ → ℕ → List ℕ → List ℕ
-runLines first lines count words = linesTo first lines count ++ cond (eqb (lastPaid lines count) 0) [] (payLines words 64)
+runLines first lines count words = linesTo first lines count ++ cond (eqb (lastPaid lines count) 0) [] (payLines words places)

@@ -5,6 +5,9 @@ use borrow.Author.Needs.{needs}
 use Rattle.trial.proofs.main.Statement.{statement}
 use Rattle.trial.proofs.main.Tie as tie
 
+market-requires : tie.Need-market-requires
+market-requires c κs = search needs
+
 separate-requires : tie.Need-separate-requires
 separate-requires c κs = search needs
 
@@ -18,4 +21,4 @@ returns : tie.Need-returns
 returns c = search needs
 
 pub main-spec : {M : Type 1} → statement M
-main-spec = tie.close (tie.spec separate-requires new-requires call-all-requires returns)
+main-spec = tie.close (tie.spec market-requires separate-requires new-requires call-all-requires returns)

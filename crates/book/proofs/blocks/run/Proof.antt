@@ -13,6 +13,7 @@ use Rattle.book.specs.rules.State.{view}
 use Rattle.book.specs.rules.Purses.{purseLimit}
 use Rattle.book.specs.rules.Step.{payoutWords}
 use Rattle.book.specs.inner.Ways.{Decides}
+use Rattle.book.proofs.rules.LimitLaws.{many-places}
 use Rattle.book.proofs.records.Packing.{count-few, kept-held, read-in-book}
 use Rattle.book.proofs.records.Bounds.{held-bound}
 use Rattle.book.proofs.runs.RunLaws.{begins, full-ends, unread-ends, turn-on}
@@ -54,7 +55,7 @@ element-set-from-q c = omega (arith, count-few (c .before .before .before .befor
 clear-requires : tie.Need-clear-requires Inv-loop μ-loop
 clear-requires c κs =
     let l = c .before .before .before .before .before .before .before .before .before .before .before .before .loop in
-    (l .inv .0 .valid .fit .many, amounts-at (c .before .before .before .before .before .before .before) .takes .0 .enough)
+    (many-places (l .inv .0 .valid .fit), amounts-at (c .before .before .before .before .before .before .before) .takes .0 .enough)
 
 loop-less : tie.Need-loop-less Inv-loop μ-loop
 loop-less c =
@@ -106,13 +107,13 @@ raise-room c =
     let l = c .before .before .before .before .before .loop in
     let v = l .inv .0 .valid in
     let f = raises-fits v (l .words) (raises-at c) in
-    (f .0, omega (arith, f .1, v .fit .many), f .2, omega (arith, f .2, kept-held v, held-bound (view (l .b)) (v .fit)))
+    (f .0, omega (arith, f .1, many-places (v .fit)), f .2, omega (arith, f .2, kept-held v, held-bound (view (l .b)) (v .fit)))
 
 enum-known-i : tie.Need-enum-known-i Inv-loop μ-loop
 enum-known-i c = search needs
 
 put-cells-requires : tie.Need-put-cells-requires Inv-loop μ-loop
-put-cells-requires c κs = (c .before .before .before .before .before .before .loop .inv .0 .valid .fit .many, raise-room (c .before) .0)
+put-cells-requires c κs = (many-places (c .before .before .before .before .before .before .loop .inv .0 .valid .fit), raise-room (c .before) .0)
 
 add-b : tie.Need-add-b Inv-loop μ-loop
 add-b c = omega (arith, raise-room (c .before .before .before .before) .3)

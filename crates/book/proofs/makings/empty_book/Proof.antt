@@ -10,7 +10,7 @@ fresh-period-requires c κs = search needs
 
 returns : tie.Need-returns
 unfolding pack heldIn heldBy zeros
-returns c = rw (c .fresh-period .ensures, no-pays (c .before .args .n))
+returns c = rw (c .before .before .fresh-period .ensures, no-pays (c .before .before .before .args .m .n))
 
 pub empty-book-spec : {M : Type 1} → statement M
 empty-book-spec = tie.close (tie.spec fresh-period-requires returns)

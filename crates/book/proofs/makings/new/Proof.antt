@@ -1,12 +1,12 @@
 use mathlib.Core.Path.{_≡_, sym, _∙_}
 use mathlib.Core.Bool.{true, false}
+use native.Mathlib.Omega.{arith}
 use borrow.Author.Needs.{needs}
 use borrow.Author.Tests.{eqb-true, not-true, not-false}
 use lib.Dec.{eqb}
 use Rattle.book.specs.Checks.{refusal}
-use Rattle.book.specs.rules.Periods.{zeros}
 use Rattle.book.specs.rules.Makings.{made, makingChecks}
-use Rattle.book.proofs.rules.MakingLaws.{accepted-few}
+use Rattle.book.proofs.rules.MakingLaws.{accepted-limited, accepted-many}
 use Rattle.book.proofs.makings.new.Statement.{statement}
 use Rattle.book.proofs.makings.new.Tie as tie
 
@@ -20,19 +20,25 @@ making-answer-requires c κs = search needs
 is-accepted-requires : tie.Need-is-accepted-requires
 is-accepted-requires c κs = search needs
 
+no-making-requires : tie.Need-no-making-requires
+no-making-requires c κs = search needs
+
 empty-book-requires : tie.Need-empty-book-requires
 empty-book-requires c κs = search needs
 
 returns : tie.Need-returns
-unfolding made zeros
+unfolding made
 returns c =
-    let t = c .before .before in
+    let t = c .before .before .before in
     let failed : eqb (refusal (makingChecks (t .before .before .args .m))) 0 ≡ false =
-    rw (t .before .making-answer .ensures) at (sym (t .is-accepted .ensures) ∙ not-true _ (c .before .if1 .taken)) in
-    (t .before .making-answer .ensures, c .empty-book .ensures ∙ rw failed)
+    rw (t .before .making-answer .ensures) at (sym (t .is-accepted .ensures) ∙ not-true _ (c .before .before .if1 .taken)) in
+    (t .before .making-answer .ensures, c .empty-book .ensures ∙ rw (c .before .no-making .ensures, failed))
 
-grouping-of-requires : tie.Need-grouping-of-requires
-grouping-of-requires c κs = accepted-few (c .before .before .before .args .m) (eqb-true _ _ (passed c))
+kept-requires : tie.Need-kept-requires
+kept-requires c κs =
+    let m = c .before .before .before .args .m in
+    let e = eqb-true _ _ (passed c) in
+    omega (arith, accepted-many m e, accepted-limited m e .participants)
 
 empty-book-requires-2 : tie.Need-empty-book-requires-2
 empty-book-requires-2 c κs = search needs
@@ -41,7 +47,7 @@ returns-2 : tie.Need-returns-2
 unfolding made
 returns-2 c =
     let t = c .before .before in
-    (t .before .before .making-answer .ensures, c .empty-book2 .ensures ∙ rw (c .before .grouping-of .ensures, passed t))
+    (t .before .before .making-answer .ensures, c .empty-book2 .ensures ∙ rw (c .before .kept .ensures, passed t))
 
 pub new-spec : {M : Type 1} → statement M
 new-spec =
@@ -49,8 +55,9 @@ new-spec =
     (tie.spec
     making-answer-requires
     is-accepted-requires
+    no-making-requires
     empty-book-requires
     returns
-    grouping-of-requires
+    kept-requires
     empty-book-requires-2
     returns-2)

@@ -9,10 +9,10 @@ use Rattle.book.proofs.makings.separate.Statement.{statement}
 use Rattle.book.proofs.makings.separate.Tie as tie
 
 abbrev Inv-loop : tie.InvT-loop
-Inv-loop n groups₀ i₀ groups i = (i ≤ places) × (groups ≡ cells (λ k. k) i)
+Inv-loop n limits groups₀ i₀ groups i = (i ≤ places) × (groups ≡ cells (λ k. k) i)
 
 abbrev μ-loop : tie.MeasureT-loop
-μ-loop n groups₀ i₀ groups i = places - i
+μ-loop n limits groups₀ i₀ groups i = places - i
 
 loop-holds : tie.Need-loop-holds Inv-loop μ-loop
 loop-holds c = (search needs, cells-none _)

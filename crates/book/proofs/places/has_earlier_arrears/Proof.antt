@@ -2,17 +2,18 @@ use Prim.Native.Nat.{_-_, _≤_}
 use mathlib.Core.Path.{_≡_, refl, sym, _∙_}
 use native.Mathlib.Omega.{arith}
 use lib.ListN.{drop}
-use Rattle.book.specs.rules.State.{view, mostPeriods, earlierArrears}
+use Rattle.book.specs.rules.Limits.{periodPlaces}
+use Rattle.book.specs.rules.State.{view, earlierArrears}
 use Rattle.book.proofs.records.Packing.{earlier-more, earlier-end}
 use borrow.Author.Needs.{needs}
 use Rattle.book.proofs.places.has_earlier_arrears.Statement.{statement}
 use Rattle.book.proofs.places.has_earlier_arrears.Tie as tie
 
 abbrev Inv-loop : tie.InvT-loop
-Inv-loop i number b k₀ k = (k ≤ mostPeriods) × (earlierArrears i number (view b .periods) ≡ earlierArrears i number (drop k (view b .periods)))
+Inv-loop i number b k₀ k = (k ≤ periodPlaces) × (earlierArrears i number (view b .periods) ≡ earlierArrears i number (drop k (view b .periods)))
 
 abbrev μ-loop : tie.MeasureT-loop
-μ-loop i number b k₀ k = mostPeriods - k
+μ-loop i number b k₀ k = periodPlaces - k
 
 loop-holds : tie.Need-loop-holds Inv-loop μ-loop
 loop-holds c = (omega arith, refl)

@@ -2,17 +2,18 @@ use Prim.Native.Nat.{_+_, _-_, _≤_, min}
 use mathlib.Core.Path.{_≡_}
 use native.Mathlib.Omega.{arith}
 use lib.ListN.{drop}
-use Rattle.book.specs.rules.State.{view, find, mostPeriods}
+use Rattle.book.specs.rules.Limits.{periodPlaces}
+use Rattle.book.specs.rules.State.{view, find}
 use Rattle.book.proofs.records.Packing.{count-few, find-here, find-past, find-nowhere}
 use borrow.Author.Needs.{needs}
 use Rattle.book.proofs.places.place.Statement.{statement}
 use Rattle.book.proofs.places.place.Tie as tie
 
 abbrev Inv-loop : tie.InvT-loop
-Inv-loop number b k₀ k = (k ≤ mostPeriods) × (find number (view b .periods) ≡ min k (b .count) + find number (drop k (view b .periods)))
+Inv-loop number b k₀ k = (k ≤ periodPlaces) × (find number (view b .periods) ≡ min k (b .count) + find number (drop k (view b .periods)))
 
 abbrev μ-loop : tie.MeasureT-loop
-μ-loop number b k₀ k = mostPeriods - k
+μ-loop number b k₀ k = periodPlaces - k
 
 loop-holds : tie.Need-loop-holds Inv-loop μ-loop
 loop-holds c = (omega arith, omega arith)

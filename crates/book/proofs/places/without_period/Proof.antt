@@ -55,9 +55,9 @@ array-set-from-ps-2 c = omega (arith, count-few (c .before .before .before .befo
 
 returns : tie.Need-returns Inv-loop μ-loop
 returns c =
-    let l = c .before .before .before .before .loop in
-    let s = c .before .before .before .before .before .before .before in
-    rw (c .before .before .fresh-period .ensures, sym (slide-end (l .ps) (l .k) _ (c .before .before .before .loop-test .left)) ∙ l .inv .2) (dropped (s .pre .0) _ _ (omega (arith, count-is (s .pre .0), s .pre .1)) (s .pre .2))
+    let l = c .before .before .before .before .before .loop in
+    let s = c .before .before .before .before .before .before .before .before in
+    rw (c .before .before .before .fresh-period .ensures, sym (slide-end (l .ps) (l .k) _ (c .before .before .before .before .loop-test .left)) ∙ l .inv .2) (dropped (s .pre .0) _ _ (omega (arith, count-is (s .pre .0), s .pre .1)) (s .pre .2))
 
 pub without-period-spec : {M : Type 1} → statement M
 without-period-spec =

@@ -1,5 +1,6 @@
 use mathlib.Core.Path.{_≡_, refl}
 use native.Mathlib.Omega.{arith}
+use Rattle.book.proofs.rules.LimitLaws.{many-places}
 use borrow.Author.Needs.{needs}
 use Rattle.exact.specs.Rows.{at}
 use Rattle.exact.proofs.Cases.{cases}
@@ -12,7 +13,7 @@ use Rattle.book.proofs.purses.drawable_purses.Tie as tie
 total-requires : tie.Need-total-requires
 total-requires c κs =
     let s = c .before in
-    (s .pre .fit .many, omega (arith, purses-bound (view (s .args .b)) (s .pre .fit), s .pre .fit .many))
+    (many-places (s .pre .fit), omega (arith, purses-bound (view (s .args .b)) (s .pre .fit), many-places (s .pre .fit)))
 
 returns : tie.Need-returns
 returns c =

@@ -4,11 +4,13 @@ use mathlib.Core.Bool.{Bool, cond}
 use mathlib.Core.List.{List}
 use native.Mathlib.Omega.{arith}
 use lib.ListN.{getD, drop}
+use Rattle.book.proofs.rules.LimitLaws.{many-places}
 use borrow.Author.Needs.{needs}
 use Rattle.exact.specs.Rows.{at}
 use Rattle.exact.proofs.RowLaws.{sum-term, cells-at}
 use Rattle.exact.proofs.Cases.{cases}
-use Rattle.book.specs.rules.State.{view, mostPeriods, noPeriod, arrearsBefore, earlierArrears}
+use Rattle.book.specs.rules.Limits.{periodPlaces}
+use Rattle.book.specs.rules.State.{view, noPeriod, arrearsBefore, earlierArrears}
 use Rattle.book.proofs.rules.PurseLaws.{barred-either}
 use Rattle.book.proofs.records.Bounds.{purses-bound}
 use Rattle.book.proofs.records.Packing.{earlier-more, earlier-end}
@@ -18,11 +20,11 @@ use Rattle.book.proofs.purses.unbarred_purses.Tie as tie
 -- what is left of the purses, barred by the periods from k on, comes to the purses barred by all
 abbrev Inv-loop : tie.InvT-loop
 Inv-loop number b purses₀ k₀ purses k =
-    (k ≤ mostPeriods)
+    (k ≤ periodPlaces)
     × ((i : ℕ) → i < b .n → cond (earlierArrears i number (drop k (view b .periods))) 0 (at purses i) ≡ cond (earlierArrears i number (view b .periods)) 0 (at (b .purses) i))
 
 abbrev μ-loop : tie.MeasureT-loop
-μ-loop number b purses₀ k₀ purses k = mostPeriods - k
+μ-loop number b purses₀ k₀ purses k = periodPlaces - k
 
 loop-holds : tie.Need-loop-holds Inv-loop μ-loop
 loop-holds c = (omega arith, λ i h. refl)
@@ -34,7 +36,7 @@ element-copy-out-p : tie.Need-element-copy-out-p Inv-loop μ-loop
 element-copy-out-p c = omega arith
 
 unbarred-requires : tie.Need-unbarred-requires Inv-loop μ-loop
-unbarred-requires c κs = c .before .before .before .before .pre .fit .many
+unbarred-requires c κs = many-places (c .before .before .before .before .pre .fit)
 
 add-k : tie.Need-add-k Inv-loop μ-loop
 add-k c = search needs

@@ -9,6 +9,7 @@ use Rattle.book.specs.rules.Answers.{numberOf}
 use Rattle.book.specs.inner.OnePeriod.{effect, effectOf}
 use Rattle.book.specs.declared.answers.Answer.the-variants.{NotInBook}
 use Rattle.book.specs.declared.Book.{Book}
+use Rattle.book.proofs.rules.LimitLaws.{many-places}
 use Rattle.book.proofs.records.Packing.{count-is, count-few, read-in-book, put}
 use Rattle.book.proofs.records.Bounds.{arrears-bound}
 use Rattle.book.proofs.records.Replies.{refuses, not-found}
@@ -99,7 +100,7 @@ is-leaving-requires : tie.Need-is-leaving-requires
 is-leaving-requires c κs =
     let f = found (c .before .before .before .before .before .before .before .before .before .before) in
     let sound = effect-sound f _ (affected (c .before .before .before)) in
-    rw (drawn (c .before .before .before .before .before .before .before)) (f .valid .fit .many, λ z. omega (arith, arrears-bound _ _ sound z))
+    rw (drawn (c .before .before .before .before .before .before .before)) (many-places (f .valid .fit), λ z. omega (arith, arrears-bound _ _ sound z))
 
 without-period-requires : tie.Need-without-period-requires
 without-period-requires c κs =

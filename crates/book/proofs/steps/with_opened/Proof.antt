@@ -19,7 +19,7 @@ with-period-requires : tie.Need-with-period-requires
 unfolding heldIn
 with-period-requires c κs =
     let s = c .before .before .before .before .before .before in
-    (s .pre .0, s .pre .2, rw (c .fresh-period .ensures) (omega (arith, fresh-holds (s .args .b .n) (s .args .k))))
+    (s .pre .0, omega (arith, s .pre .2, s .pre .0 .fit .limited .periods), rw (c .fresh-period .ensures) (omega (arith, fresh-holds (s .args .b .n) (s .args .k))))
 
 same-length : tie.Need-same-length
 same-length c = search needs

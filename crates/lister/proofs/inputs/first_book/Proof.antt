@@ -17,7 +17,9 @@ new-requires : tie.Need-new-requires
 new-requires c κs = search needs
 
 returns : tie.Need-returns
-returns c = c .before .new .ensures .1 ∙ ap (λ (m : Making). pack (made m .state)) (c .before .before .separate .ensures) ∙ ap bookFor (c .before .before .before .size .ensures)
+returns c =
+    let limits = c .before .before .before .before .args .limits in
+    c .before .new .ensures .1 ∙ ap (λ (m : Making). pack (made m .state)) (c .before .before .separate .ensures) ∙ ap (bookFor limits) (c .before .before .before .size .ensures)
 
 pub first-book-spec : {M : Type 1} → statement M
 first-book-spec = tie.close (tie.spec size-requires separate-requires new-requires returns)

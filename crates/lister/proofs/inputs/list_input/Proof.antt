@@ -39,7 +39,7 @@ ended-by-requires c κs = search needs
 
 returns : tie.Need-returns
 returns c =
-    subst Session (sym (c .ended-by .ensures))
+    subst (Session _) (sym (c .ended-by .ensures))
     (header-not-written _ _ (ap (λ (i : Input). i .total) (c .before .unread .ensures)) (sent (c .before .before .before .before)) (sym (c .before .before .before .is-written .ensures) ∙ not-true _ (c .before .before .if1 .taken)))
 
 unread-requires-2 : tie.Need-unread-requires-2
@@ -59,30 +59,23 @@ returns-2 c =
     let u : c .before .before .before .before .before .before .before .unread2 .result .total ≡ 0 = ap (λ (i : Input). i .total) (c .before .before .before .before .before .before .before .unread2 .ensures) in
     let f = c .before .before .before .before .before .read-more .ensures in
     let z = c .before .before .before .if2 .taken in
-    subst Session (sym (c .ended-by2 .ensures))
+    subst (Session _) (sym (c .ended-by2 .ensures))
     (rw (c .before .why-ended .ensures)
     (nothing-read _ _ (omega (arith, u, f .counted, z)) (sent (c .before .before .before .before .before .before .before .before .before .before)) _ (f .came) (omega (arith, z)) (sym (c .before .before .before .before .before .before .before .before .before .is-written .ensures) ∙ not-false _ (c .before .before .before .before .before .before .before .before .if1 .left))))
 
-element-copy-out-first-book : tie.Need-element-copy-out-first-book
-element-copy-out-first-book c = search needs
-
-first-book-requires : tie.Need-first-book-requires
-first-book-requires c κs = search needs
-
 list-blocks-requires : tie.Need-list-blocks-requires
 list-blocks-requires c κs =
-    let u : c .before .before .before .before .before .before .before .before .before .before .unread2 .result .total ≡ 0 = ap (λ (i : Input). i .total) (c .before .before .before .before .before .before .before .before .before .before .unread2 .ensures) in
-    let f = c .before .before .before .before .before .before .before .before .read-more .ensures in
-    let some : 0 < c .before .before .before .before .before .before .before .before .read-more .result .filled = omega (arith, c .before .before .before .before .before .before .if2 .left) in
+    let u : c .before .before .before .before .before .before .before .before .unread2 .result .total ≡ 0 = ap (λ (i : Input). i .total) (c .before .before .before .before .before .before .before .before .unread2 .ensures) in
+    let f = c .before .before .before .before .before .before .read-more .ensures in
+    let some : 0 < c .before .before .before .before .before .before .read-more .result .filled = omega (arith, c .before .before .before .before .if2 .left) in
     record {
       some = some;
       within = f .within;
       read-counted = omega (arith, u, f .counted);
       brought = brought _ _ (f .came) (omega (arith, some));
-      header-counted = sent (c .before .before .before .before .before .before .before .before .before .before .before .before .before);
-      header-written = sym (c .before .before .before .before .before .before .before .before .before .before .before .before .is-written .ensures) ∙ not-false _ (c .before .before .before .before .before .before .before .before .before .before .before .if1 .left);
-      book = c .before .before .before .before .first-book .ensures;
-      as-lent = c .before .before .before .before .before .before .before .before .before .before .before .before .before .before .before .before .before .before .before .pre;
+      header-counted = sent (c .before .before .before .before .before .before .before .before .before .before .before);
+      header-written = sym (c .before .before .before .before .before .before .before .before .before .before .is-written .ensures) ∙ not-false _ (c .before .before .before .before .before .before .before .before .before .if1 .left);
+      as-lent = c .before .before .before .before .before .before .before .before .before .before .before .before .before .before .before .before .before .pre;
     }
 
 returns-3 : tie.Need-returns-3
@@ -104,7 +97,5 @@ list-input-spec =
     why-ended-requires
     ended-by-requires-2
     returns-2
-    element-copy-out-first-book
-    first-book-requires
     list-blocks-requires
     returns-3)

@@ -2,6 +2,7 @@ use Prim.Native.Nat.{_≤_, _-_, _+_, _*_}
 use mathlib.Core.Path.{_≡_}
 use native.Mathlib.Omega.{arith}
 use native.Mathlib.Numerals.{add-one}
+use Rattle.exact.specs.Rows.{places}
 use Rattle.text.specs.Puts.{Puts}
 use Rattle.text.proofs.PutLaws.{puts-then, puts-none, puts-length}
 use Rattle.lister.specs.Lines.{payLines}
@@ -12,10 +13,10 @@ use Rattle.lister.proofs.lines.put_pays.Tie as tie
 
 abbrev Inv-loop : tie.InvT-loop
 Inv-loop out₀ place words next₀ i₀ out next i =
-    (i ≤ 64) × Puts out₀ place (payLines words i) out next × (next ≤ place + i * payRoom)
+    (i ≤ places) × Puts out₀ place (payLines words i) out next × (next ≤ place + i * payRoom)
 
 abbrev μ-loop : tie.MeasureT-loop
-μ-loop out₀ place words next₀ i₀ out next i = 64 - i
+μ-loop out₀ place words next₀ i₀ out next i = places - i
 
 loop-holds : tie.Need-loop-holds Inv-loop μ-loop
 unfolding payLines
@@ -49,7 +50,7 @@ same-length c = puts-length (c .before .loop .inv .1)
 returns : tie.Need-returns Inv-loop μ-loop
 returns c =
     let l = c .before .loop in
-    let e : l .i ≡ 64 = omega arith in
+    let e : l .i ≡ places = omega arith in
     (rw e at (l .inv .1), omega arith)
 
 pub put-pays-spec : {M : Type 1} → statement M

@@ -2,8 +2,8 @@ use borrow.Author.Needs.{needs}
 use Prim.Native.Nat.{ℕ, _+_, _-_, _*_, _≤_, _<_}
 use native.Mathlib.Omega.{arith}
 use native.Mathlib.Nat.{mul-le-mul, le-refl, add-mul, one-mul}
-use Rattle.trial.proofs.calls.numbers_at.Statement.{statement}
-use Rattle.trial.proofs.calls.numbers_at.Tie as tie
+use Rattle.trial.proofs.makings.numbers_at.Statement.{statement}
+use Rattle.trial.proofs.makings.numbers_at.Tie as tie
 
 abbrev Inv-loop : tie.InvT-loop
 Inv-loop s place width numbers₀ i₀ numbers i = i ≤ 64

@@ -10,6 +10,7 @@ use Rattle.book.specs.rules.Purses.{pursesAfter}
 use Rattle.book.specs.rules.Refusals.{barring}
 use Rattle.book.specs.rules.Step.{Reply, reply}
 use Rattle.book.specs.inner.OnePeriod.{effect, effectOf}
+use Rattle.book.proofs.rules.LimitLaws.{many-places}
 use Rattle.book.proofs.records.Packing.{count-is, count-few, read-in-book, put}
 use Rattle.book.proofs.records.Bounds.{arrears-bound}
 use Rattle.book.proofs.records.Named.{Found, foundPeriod, drawn-valid, drawn-view, drawn-read, drawn-other, drawn-settle, stored-over}
@@ -107,7 +108,7 @@ pub is-leaving-requires : tie.Need-is-leaving-requires Inv-loop μ-loop
 is-leaving-requires c κs =
     let f = found (c .before .before .before .before .before .before .before .before .before .before .before .before .before .before .before) in
     let sound = effect-sound f _ (affected (c .before .before .before .before .before .before .before .before)) in
-    rw (drawn (c .before .before .before .before .before .before .before .before .before .before .before .before)) (f .valid .fit .many, λ z. omega (arith, arrears-bound _ _ sound z))
+    rw (drawn (c .before .before .before .before .before .before .before .before .before .before .before .before)) (many-places (f .valid .fit), λ z. omega (arith, arrears-bound _ _ sound z))
 
 pub without-period-requires : tie.Need-without-period-requires Inv-loop μ-loop
 without-period-requires c κs =
