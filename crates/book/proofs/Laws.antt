@@ -11,6 +11,8 @@ pub use Rattle.book.proofs.rules.LimitLaws.{many-places}
 pub use Rattle.book.proofs.rules.WashupLaws.{there-and-back, nothing-added}
 -- what a book is made with
 pub use Rattle.book.proofs.rules.MakingLaws.{refused-book, same-books, separate-books}
+-- what a book of lower limits accepts throughout, one of higher limits pays alike
+pub use Rattle.book.proofs.rules.SamePayouts.{same-payouts}
 -- demand 3, of entries one after the other and of block runs among them
 pub use Rattle.book.proofs.history.Demand3.{demand3}
 pub use Rattle.book.proofs.runs.BlockRuns.{block-runs}

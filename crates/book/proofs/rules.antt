@@ -16,3 +16,4 @@ pub mod EntryChanges
 pub mod ValidLaws
 pub mod WashupLaws
 pub mod CentsLaws
+pub mod SamePayouts

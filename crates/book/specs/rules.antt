@@ -10,3 +10,4 @@ pub mod Valid
 pub mod Washups
 pub mod Answers
 pub mod Refusals
+pub mod SamePayouts
