@@ -28,3 +28,4 @@ pub use Rattle.book.proofs.examples.Months.{examples}
 pub use Rattle.book.proofs.examples.Limits.{limits}
 pub use Rattle.book.proofs.examples.Purses.{purse-examples}
 pub use Rattle.book.proofs.examples.Washups.{washup-examples}
+pub use Rattle.book.proofs.examples.Demonstrations.{demonstrations}
