@@ -11,7 +11,7 @@ pub use Rattle.book.proofs.rules.LimitLaws.{many-places}
 pub use Rattle.book.proofs.rules.WashupLaws.{there-and-back, nothing-added}
 -- what a book is made with
 pub use Rattle.book.proofs.rules.MakingLaws.{refused-book, same-books, separate-books}
--- what a book of lower limits accepts throughout, one of higher limits pays alike
+-- a book whose limits are not below those of another pays what that one pays, where that one accepts all
 pub use Rattle.book.proofs.rules.SamePayouts.{same-payouts}
 -- demand 3, of entries one after the other and of block runs among them
 pub use Rattle.book.proofs.history.Demand3.{demand3}
@@ -25,7 +25,7 @@ pub use Rattle.book.proofs.runs.RunLaws.{read-or-none, run-full, run-un
 pub use Rattle.book.proofs.runs.RunReplies.{reply-n}
 -- examples
 pub use Rattle.book.proofs.examples.Months.{examples}
-pub use Rattle.book.proofs.examples.Limits.{limits}
+pub use Rattle.book.proofs.examples.Limits.{limit-examples}
 pub use Rattle.book.proofs.examples.Purses.{purse-examples}
 pub use Rattle.book.proofs.examples.Washups.{washup-examples}
 pub use Rattle.book.proofs.examples.Demonstrations.{demonstrations}

@@ -53,7 +53,7 @@ pub use writer::write_entry;
 pub const SIDES: usize = 2;
 
 // The places that a book has for periods.
-pub const PERIODS: usize = 12;
+pub const PERIOD_PLACES: usize = 12;
 
 pub enum Stage {
     Opened,
@@ -85,6 +85,6 @@ pub struct Book {
     highest: u32,
     count: usize,
     held: u64,
-    periods: [Period; PERIODS],
+    periods: [Period; PERIOD_PLACES],
     purses: Row,
 }

@@ -1,7 +1,7 @@
 // The limits of a book.
 ghost use mathlib.Core.Path.{_≡_};
 ghost use Rattle.book.specs.rules.Limits.{market, demonstration, within};
-use crate::PERIODS;
+use crate::PERIOD_PLACES;
 use exact::PLACES;
 
 // The most participants that a book can be made for, and the most periods that can be in it.
@@ -16,7 +16,7 @@ pub fn market() -> Limits
 {
     Limits {
         participants: PLACES,
-        periods: PERIODS,
+        periods: PERIOD_PLACES,
     }
 }
 

@@ -7,7 +7,7 @@ ghost use Rattle.book.specs.rules.Answers.{numberOf};
 ghost use Rattle.book.specs.rules.State.{pack};
 ghost use Rattle.book.specs.rules.Makings.{made, makingChecks, groupingOf, kept, noMaking, emptyState, separate};
 use crate::Book;
-use crate::PERIODS;
+use crate::PERIOD_PLACES;
 use crate::answers::Answer;
 use crate::answers::is_accepted;
 use crate::limits::Limits;
@@ -33,7 +33,7 @@ pub struct Made {
     pub book: Book,
 }
 
-// Each participant in a group of its own, and no reserves.
+// Each participant in a group of its own, and no reserves, in a book of these limits.
 pub fn separate(n: usize, limits: Limits) -> Making
     ensures { λ r. ⌜ r ≡ separate n limits ⌝ }
 {
@@ -59,7 +59,7 @@ fn making_answer(m: Making) -> Answer
     if !is_within(m.limits.participants, PLACES) {
         return Answer::NoParticipants;
     }
-    if !is_within(m.limits.periods, PERIODS) {
+    if !is_within(m.limits.periods, PERIOD_PLACES) {
         return Answer::NoParticipants;
     }
     if !is_within(m.n, m.limits.participants) {
@@ -86,7 +86,7 @@ fn empty_book(m: Making) -> Book
         highest: 0,
         count: 0,
         held: 0,
-        periods: [free; PERIODS],
+        periods: [free; PERIOD_PLACES],
         purses: [0; PLACES],
     }
 }
@@ -120,7 +120,7 @@ fn kept(m: Making) -> Making
     }
 }
 
-// What a refused book has: no participants, and no room for any.
+// What a refused book has: no participants, and limits of 0.
 fn no_making() -> Making
     ensures { λ r. ⌜ r ≡ noMaking ⌝ }
 {

@@ -8,7 +8,7 @@ ghost use Rattle.book.specs.rules.Limits.{periodPlaces};
 ghost use Rattle.book.specs.rules.State.{view, pack, find, heldIn, heldBy, earlierArrears, removed, added, centsHeld};
 ghost use Rattle.book.specs.rules.Valid.{Valid};
 use crate::Book;
-use crate::PERIODS;
+use crate::PERIOD_PLACES;
 use crate::Period;
 use crate::periods::fresh_period;
 use crate::periods::has_arrears_before;
@@ -26,13 +26,13 @@ pub fn place(b: Book, number: u32) -> usize
     requires { ⌜ Valid b ⌝ }
     ensures { λ r. ⌜ min r (b .count) ≡ find number (view b .periods) ⌝ }
 {
-    for k in 0..PERIODS {
+    for k in 0..PERIOD_PLACES {
         let p = b.periods[k];
         if p.number == number {
             return k;
         }
     }
-    PERIODS
+    PERIOD_PLACES
 }
 
 // Whether an earlier settled period has arrears of i.
@@ -40,7 +40,7 @@ pub fn has_earlier_arrears(b: Book, i: usize, number: u32) -> bool
     requires { ⌜ Valid b × (i < places) ⌝ }
     ensures { λ r. ⌜ r ≡ earlierArrears i number (view b .periods) ⌝ }
 {
-    for k in 0..PERIODS {
+    for k in 0..PERIOD_PLACES {
         let p = b.periods[k];
         if has_arrears_before(p, i, number) {
             return true;

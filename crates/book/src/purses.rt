@@ -13,7 +13,7 @@ ghost use Rattle.book.specs.rules.Refusals.{purseChecks};
 ghost use Rattle.book.specs.rules.State.{view, arrearsBefore, earlierArrears};
 ghost use Rattle.book.specs.rules.Valid.{Sound, Valid};
 use crate::Book;
-use crate::PERIODS;
+use crate::PERIOD_PLACES;
 use crate::Period;
 use crate::answers::Answer;
 use crate::periods::is_noticed;
@@ -85,7 +85,7 @@ fn unbarred_purses(b: Book, number: u32) -> Row
     ensures { λ r. ⌜ ((i : ℕ) → i < b .n → at r i ≡ cond (earlierArrears i number (view b .periods)) 0 (at (b .purses) i)) ⌝ }
 {
     let mut purses = b.purses;
-    for k in 0..PERIODS {
+    for k in 0..PERIOD_PLACES {
         let p = b.periods[k];
         let left = unbarred(purses, p, number, b.n);
         purses = left;

@@ -1,4 +1,5 @@
--- The listing of a whole input in a book of some limits, entry by entry (01, Reckoned examples, its end; 02, f). It knows no blocks, runs or buffers.
+-- The listing of a whole input in a book of some limits, entry by entry (01, Reckoned examples, its end; 02, f). It knows no
+-- blocks, runs or buffers.
 use Prim.Native.Nat.{ℕ, zero, suc, _+_}
 use mathlib.Core.List.{List, [], _∷_, _++_}
 use lib.ListN.{length, drop, replicate}

@@ -70,8 +70,8 @@ allPut (t ∷ ts) = t .put ++ allPut ts
 abbrev pub begun : Limits → ℕ → Stand
 begun limits n = record { number = 1; book = bookFor limits n; left = [] }
 
--- any limits and any input, n and what follows it, cut into pieces in any way: what the turns put, in order, is its listing; and where the input
--- had not ended, that of every input that begins so
+-- any limits and any input, n and what follows it, cut into pieces in any way: what the turns put, in order, is its listing; and
+-- where the input had not ended, that of every input that begins so
 pub record Joined (limits : Limits) (n : ℕ) (t : Turn) (ts : List Turn) : Type 0 where
   pub whole : listing limits (n ∷ pieces (t ∷ ts)) ≡ header ++ allPut (t ∷ ts)
   pub for-good : last t ts .ended ≡ false → (more : List ℕ) → listing limits ((n ∷ pieces (t ∷ ts)) ++ more) ≡ header ++ allPut (t ∷ ts)

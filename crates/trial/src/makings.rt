@@ -1,15 +1,16 @@
 // What a call makes a book with.
 ghost use Prim.Native.Nat.{_+_, _*_, _≤_};
 ghost use lib.ListN.{length};
+ghost use Rattle.settlement.specs.Groups.{groupCount};
 use crate::calls::number_at;
 use book::Limits;
 use book::Making;
 use settlement::GROUPS;
 use settlement::Grouping;
 
-// As many numbers as there are groups, one after the other from a place on, of the same width.
+// Numbers of the same width, one after the other from a place on: as many as there are groups, or places for participants.
 fn numbers_at(s: &[u8], place: usize, width: usize) -> [u64; GROUPS]
-    requires { ⌜ (width ≤ 8) × (place + 64 * width ≤ length (now s)) ⌝ }
+    requires { ⌜ (width ≤ 8) × (place + groupCount * width ≤ length (now s)) ⌝ }
 {
     let mut numbers = [0u64; GROUPS];
     for i in 0..GROUPS {

@@ -32,6 +32,7 @@ demonstrations = record {
   six-before-seven = refl;
   freed-place = refl;
   four-before-three = (refl, refl, refl);
+  field-values = refl;
   one-period = refl;
   eleven-periods = refl;
   month-a = refl;

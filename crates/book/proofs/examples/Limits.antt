@@ -1,7 +1,7 @@
 -- 01's limits come out of the definitions by computation.
 use mathlib.Core.Path.{refl}
 use Rattle.book.specs.examples.Months.{stateAfter}
-use Rattle.book.specs.examples.Limits.{FieldLimits, ByteLimits, BookLimits, Limits}
+use Rattle.book.specs.examples.Limits.{FieldLimits, ByteLimits, BookLimits, LimitExamples}
 use Rattle.book.specs.layouts.Fields.{valueAt, bytes, fieldsAt, fieldBytes}
 use Rattle.book.specs.layouts.Entries.{entryOf, bytesOf}
 use Rattle.book.specs.layouts.Reading.{entryAt, reading}
@@ -135,5 +135,5 @@ book-limits = record {
   no-wrap = refl;
 }
 
-pub limits : Limits
-limits = record { fields = field-limits; bytes = byte-limits; sizes = book-limits }
+pub limit-examples : LimitExamples
+limit-examples = record { fields = field-limits; bytes = byte-limits; sizes = book-limits }

@@ -11,7 +11,7 @@ use Rattle.book.specs.rules.Limits.{periodPlaces, within}
 use Rattle.book.specs.rules.State.{State}
 use Rattle.book.specs.rules.Valid.{SoundState}
 
--- a number that is 1 to the most is both
+-- a number that is 1 to the most is at least 1, and at most the most
 pub within-both : (most x : ℕ) → within most x ≡ true → (1 ≤ x) × (x ≤ most)
 within-both most x =
     cases-eq (λ t. t ≡ true → (1 ≤ x) × (x ≤ most)) x 0

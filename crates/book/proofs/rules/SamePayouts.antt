@@ -1,8 +1,8 @@
--- A book of higher limits accepts what one of lower limits accepts, and pays the same.
+-- A book whose limits are not below those of another accepts what that one accepts, and pays the same.
 use Prim.Native.Nat.{ℕ, _≤_}
 use mathlib.Core.Path.{_≡_, refl, sym, ap, _∙_}
 use mathlib.Core.Bool.{Bool, true, false, cond}
-use mathlib.Core.List.{List, [], _∷_, map}
+use mathlib.Core.List.{List, [], _∷_}
 use mathlib.Core.Logic.{⊎-elim}
 use native.Mathlib.Omega.{arith}
 use borrow.Author.Tests.{eq-eqb, ne-eqb, lt-leb, le-ltb}
@@ -17,9 +17,8 @@ use Rattle.book.specs.rules.State.{State, pack, replaced, removed, added
 use Rattle.book.specs.rules.Purses.{drawnFrom, periodsAfter, pursesAfter, afterDrawing}
 use Rattle.book.specs.rules.Makings.{makingChecks, Made, made, kept, emptyState, Agree}
 use Rattle.book.specs.rules.Refusals.{Input, checks}
-use Rattle.book.specs.rules.Step.{Outcome, Reply, stored, acted, accepted, step, reply, replies}
-use Rattle.book.specs.rules.Valid.{All}
-use Rattle.book.specs.rules.SamePayouts.{AcceptsAll, PaysAlike, SamePayouts, limitedTo}
+use Rattle.book.specs.rules.Step.{Outcome, stored, acted, accepted, step, reply, replies}
+use Rattle.book.specs.rules.SamePayouts.{repliesFrom, AllAccepted, payouts, PaysAlike, SamePayouts, limitedTo}
 use Rattle.book.specs.declared.entries.Entry.{Entry}
 use Rattle.book.specs.declared.Period.{Period}
 use Rattle.book.specs.declared.limits.Limits.{Limits}
@@ -33,8 +32,8 @@ abbrev limitedBy : Limits → State → State
 limitedBy limits s = record { n = s .n; grouping = s .grouping; limits = limits; highest = s .highest; periods = s .periods; purses = s .purses }
 
 -- an outcome, of which the state has other limits
-abbrev alike : Limits → Outcome → Outcome
-alike limits o = record { answer = o .answer; rounds = o .rounds; state = limitedBy limits (o .state); words = o .words }
+abbrev withLimits : Limits → Outcome → Outcome
+withLimits limits o = record { answer = o .answer; rounds = o .rounds; state = limitedBy limits (o .state); words = o .words }
 
 -- what is drawn, and what an accepted entry makes of the book, does not go by its limits
 module _ (limits : Limits) (s : State) where
@@ -50,20 +49,20 @@ module _ (limits : Limits) (s : State) where
       go true = refl
       go false = refl
 
-  acted-alike : (x : Input) → acted (limitedBy limits s) x ≡ alike limits (acted s x)
+  acted-alike : (x : Input) → acted (limitedBy limits s) x ≡ withLimits limits (acted s x)
   unfolding acted
   acted-alike x = ap (λ (t : State). record { answer = 0; rounds = acted s x .rounds; state = t; words = acted s x .words }) (stored-alike _ _)
 
-accepted-alike : (limits : Limits) (s : State) (x : Input) → accepted (limitedBy limits s) x ≡ alike limits (accepted s x)
+accepted-alike : (limits : Limits) (s : State) (x : Input) → accepted (limitedBy limits s) x ≡ withLimits limits (accepted s x)
 unfolding accepted added
 accepted-alike limits s x = go (isOpen (x .entry)) (isPurse (x .entry)) refl refl
   where
-    go : (t u : Bool) → isOpen (x .entry) ≡ t → isPurse (x .entry) ≡ u → accepted (limitedBy limits s) x ≡ alike limits (accepted s x)
+    go : (t u : Bool) → isOpen (x .entry) ≡ t → isPurse (x .entry) ≡ u → accepted (limitedBy limits s) x ≡ withLimits limits (accepted s x)
     go true u q r = rw q refl
     go false true q r = rw (q, r) refl
     go false false q r = rw (q, r) (ap (λ (t : State). acted t x) (after-alike limits s (x .entry)) ∙ acted-alike limits (afterDrawing s (x .entry)) x)
 
--- so what the book accepts, one of a higher period limit accepts, and leaves alike
+-- so what the book accepts, one whose period limit is not below accepts, and leaves alike
 module _ (limits : Limits) (s : State) (x : Input) (above : s .limits .periods ≤ limits .periods) (e : refusal (checks s x) ≡ 0) where
   checks-alike : refusal (checks (limitedBy limits s) x) ≡ 0
   checks-alike = go (isOpen (x .entry)) refl
@@ -85,8 +84,8 @@ module _ (limits : Limits) (s : State) (x : Input) (above : s .limits .periods �
       go true q = opened q
       go false q = rw q (rw q at e)
 
-  step-alike : step (limitedBy limits s) x ≡ alike limits (step s x)
-  step-alike = step-accepted (limitedBy limits s) x checks-alike ∙ accepted-alike limits s x ∙ ap (alike limits) (sym (step-accepted s x e))
+  step-alike : step (limitedBy limits s) x ≡ withLimits limits (step s x)
+  step-alike = step-accepted (limitedBy limits s) x checks-alike ∙ accepted-alike limits s x ∙ ap (withLimits limits) (sym (step-accepted s x e))
 
 -- an entry leaves the limits
 step-limits : (s : State) (x : Input) → step s x .state .limits ≡ s .limits
@@ -99,32 +98,26 @@ step-limits s x =
     (λ _. cases (λ (t : State). t .limits ≡ s .limits) (leaves (s .n) _) (λ _. refl) (λ _. refl))))
     (λ _. refl)
 
-replied : (s : State) (x : Input) → reply (pack s) x ≡ record { answer = step s x .answer; rounds = step s x .rounds; book = pack (step s x .state); words = step s x .words }
+reply-packed : (s : State) (x : Input) → reply (pack s) x ≡ record { answer = step s x .answer; rounds = step s x .rounds; book = pack (step s x .state); words = step s x .words }
 unfolding reply
-replied s x = ap (λ (t : State). record { answer = step t x .answer; rounds = step t x .rounds; book = pack (step t x .state); words = step t x .words }) (view-pack s)
+reply-packed s x = ap (λ (t : State). record { answer = step t x .answer; rounds = step t x .rounds; book = pack (step t x .state); words = step t x .words }) (view-pack s)
 
-abbrev Accepted : Reply → Type 0
-Accepted r = r .answer ≡ 0
-
-abbrev wordsOf : List Reply → List (List ℕ)
-wordsOf l = map (λ (r : Reply). r .words) l
-
-replies-alike : (limits : Limits) (s : State) → s .limits .periods ≤ limits .periods → (inputs : List Input) → All Accepted (replies (pack s) inputs)
-    → All Accepted (replies (pack (limitedBy limits s)) inputs) × (wordsOf (replies (pack (limitedBy limits s)) inputs) ≡ wordsOf (replies (pack s) inputs))
+replies-alike : (limits : Limits) (s : State) → s .limits .periods ≤ limits .periods → (inputs : List Input) → AllAccepted (replies (pack s) inputs)
+    → AllAccepted (replies (pack (limitedBy limits s)) inputs) × (payouts (replies (pack (limitedBy limits s)) inputs) ≡ payouts (replies (pack s) inputs))
 unfolding replies
 replies-alike limits s above [] h = (tt, refl)
 replies-alike limits s above (x ∷ inputs) h =
-    let z : step s x .answer ≡ 0 = rw (replied s x) at (h .0) in
+    let z : step s x .answer ≡ 0 = rw (reply-packed s x) at (h .0) in
     let e = sym (step-answer s x) ∙ z in
-    let more = replies-alike limits (step s x .state) (rw (step-limits s x) above) inputs (rw (replied s x) at (h .1)) in
-    rw (replied s x, replied (limitedBy limits s) x, step-alike limits s x above e) ((z, more .0), ap (λ (l : List (List ℕ)). step s x .words ∷ l) (more .1))
+    let more = replies-alike limits (step s x .state) (rw (step-limits s x) above) inputs (rw (reply-packed s x) at (h .1)) in
+    rw (reply-packed s x, reply-packed (limitedBy limits s) x, step-alike limits s x above e) ((z, more .0), ap (λ (l : List (List ℕ)). step s x .words ∷ l) (more .1))
 
 -- a book that accepts an entry was made
 was-made : (m : Making) (x : Input) → reply (pack (made m .state)) x .answer ≡ 0 → refusal (makingChecks m) ≡ 0
 unfolding made
 was-made m x h =
     ⊎-elim (λ e. e)
-    (λ ne. absurd (omega (arith, refused-book .answers m ne x, let z : step (made m .state) x .answer ≡ 0 = rw (replied (made m .state) x) at h in z)))
+    (λ ne. absurd (omega (arith, refused-book .answers m ne x, let z : step (made m .state) x .answer ≡ 0 = rw (reply-packed (made m .state) x) at h in z)))
     (eq-or-ne (refusal (makingChecks m)) 0)
 
 made-state : (m : Making) → refusal (makingChecks m) ≡ 0 → made m .state ≡ emptyState (kept m)
@@ -134,7 +127,7 @@ made-state m e = rw (eq-eqb (refusal (makingChecks m)) 0 e)
 module _ (a b : Making) (same : Agree a b) (above : UpTo (b .limits) (a .limits)) (limited : UpTo market (b .limits)) where
   -- what a is made with, but the limits of b
   abbrev c : Making
-  c = record { n = a .n; grouping = a .grouping; limits = b .limits }
+  c = limitedTo (b .limits) (a .n) (a .grouping)
 
   made-alike : refusal (makingChecks a) ≡ 0 → made b .state ≡ limitedBy (b .limits) (made a .state)
   made-alike e =
@@ -143,7 +136,7 @@ module _ (a b : Making) (same : Agree a b) (above : UpTo (b .limits) (a .limits)
       ap (λ (m : Made). m .state) (sym (same-books c b (record { n = same .n; groups = same .groups; reserves = same .reserves }) refl))
       ∙ made-state c z ∙ sym (ap (limitedBy (b .limits)) (made-state a e))
 
-  pays-alike : (inputs : List Input) → AcceptsAll a inputs → PaysAlike a b inputs
+  pays-alike : (inputs : List Input) → AllAccepted (repliesFrom a inputs) → PaysAlike a b inputs
   unfolding replies
   pays-alike [] h = record { accepted = tt; same = refl }
   pays-alike (x ∷ inputs) h =

@@ -3,15 +3,15 @@
 use Prim.Native.Nat.{ℕ}
 use mathlib.Core.Path.{_≡_}
 use mathlib.Core.List.{List, [], _∷_, _++_}
-use lib.ListN.{replicate}
 use Rattle.book.specs.rules.Limits.{demonstration}
 use Rattle.book.specs.rules.State.{State}
 use Rattle.book.specs.rules.Makings.{made, separate}
-use Rattle.book.specs.examples.Months.{linesFrom, stateAfter, lent, listingA, monthA, openings}
-use Rattle.book.specs.examples.Limits.{answersOf}
+use Rattle.book.specs.rules.SamePayouts.{limitedTo}
+use Rattle.book.specs.examples.Months.{linesFrom, lent, listingA, monthA, openings}
+use Rattle.book.specs.examples.Limits.{answersIn}
 use Rattle.book.specs.declared.limits.Limits.{Limits}
-use Rattle.book.specs.declared.entries.Entry.{Entry}
-use Rattle.book.specs.declared.entries.Entry.the-variants.{Open, Notice, Settle}
+use Rattle.book.specs.declared.makings.Making.{Making}
+use Rattle.book.specs.declared.entries.Entry.the-variants.{Open, Amount, Notice, Settle}
 
 -- the answer to a making of n participants, each in a group of its own, with a participant limit and a period limit
 abbrev pub answerTo : ℕ → ℕ → ℕ → ℕ
@@ -24,9 +24,9 @@ demonstrated = made (separate 3 demonstration) .state
 abbrev pub ofPeriods : ℕ → State
 ofPeriods periods = made (separate 3 (record { participants = 3; periods = periods })) .state
 
--- the answers to entries, each of them given to the same book, after others were applied to it
-abbrev pub answersIn : State → List Entry → List Entry → List ℕ
-answersIn s first l = answersOf (stateAfter s lent first) lent l
+-- two participants, of which one has a group number outside its values
+abbrev pub outside : Limits → Making
+outside limits = limitedTo limits 2 (record { groups = 64 ∷ []; reserves = [] })
 
 pub record Demonstrations : Type 0 where
   -- 4: a participant limit is 1 to 64, a period limit 1 to 12, and n is 1 to the participant limit
@@ -40,10 +40,12 @@ pub record Demonstrations : Type 0 where
   -- 6 before 7; the place of a period that left serves a later one
   pub six-before-seven : answersIn demonstrated (openings 3) (Open 3 ∷ []) ≡ 6 ∷ []
   pub freed-place : answersIn demonstrated (openings 3 ++ (Notice 1 ∷ Settle 1 ∷ [])) (Open 4 ∷ []) ≡ 0 ∷ []
-  -- 4 before 3: a group number outside its values is not come to
-  pub four-before-three : (made (record { n = 2; grouping = record { groups = 64 ∷ []; reserves = [] }; limits = record { participants = 1; periods = 3 } }) .answer ≡ 4)
-      × (made (record { n = 2; grouping = record { groups = 64 ∷ []; reserves = [] }; limits = record { participants = 2; periods = 13 } }) .answer ≡ 4)
-      × (made (record { n = 2; grouping = record { groups = 64 ∷ []; reserves = [] }; limits = record { participants = 2; periods = 3 } }) .answer ≡ 3)
+  -- 4 before 3: a group number outside its values is not looked at
+  pub four-before-three : (made (outside (record { participants = 1; periods = 3 })) .answer ≡ 4)
+      × (made (outside (record { participants = 2; periods = 13 })) .answer ≡ 4)
+      × (made (outside (record { participants = 2; periods = 3 })) .answer ≡ 3)
+  -- the values of fields do not go by the limits: participants that the book does not have are 12, and 64 is 3
+  pub field-values : answersIn demonstrated (Open 1 ∷ []) (Amount 1 2 0 0 1 ∷ Amount 1 8 0 0 1 ∷ Amount 1 63 0 0 1 ∷ Amount 1 64 0 0 1 ∷ []) ≡ 0 ∷ 12 ∷ 12 ∷ 3 ∷ []
   -- a book with a period limit of 1, and of 11
   pub one-period : answersIn (ofPeriods 1) [] (Open 1 ∷ []) ++ answersIn (ofPeriods 1) (Open 1 ∷ []) (Open 2 ∷ []) ≡ 0 ∷ 7 ∷ []
   pub eleven-periods : answersIn (ofPeriods 11) (openings 10) (Open 11 ∷ []) ++ answersIn (ofPeriods 11) (openings 11) (Open 12 ∷ []) ≡ 0 ∷ 7 ∷ []

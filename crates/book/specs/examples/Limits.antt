@@ -22,12 +22,15 @@ abbrev pub answersOf : State → List ℕ → List Entry → List ℕ
 answersOf s words [] = []
 answersOf s words (e ∷ l) = step s (record { entry = e; words = words }) .answer ∷ answersOf s words l
 
--- the same after others were applied, in a book of 64 and in one of three
+-- the same after others were applied, with four words lent; in a book of three, and with 64 words in a book of 64
+abbrev pub answersIn : State → List Entry → List Entry → List ℕ
+answersIn s first l = answersOf (stateAfter s lent first) lent l
+
 abbrev pub of64 : List Entry → List Entry → List ℕ
 of64 first l = answersOf (stateAfter (book 64) (replicate 64 0) first) (replicate 64 0) l
 
 abbrev pub of3 : List Entry → List Entry → List ℕ
-of3 first l = answersOf (stateAfter (book 3) lent first) lent l
+of3 = answersIn (book 3)
 
 -- a making of n participants with their group numbers, and the reserves of the first groups; all others are 0
 abbrev pub making : ℕ → List ℕ → List ℕ → Making
@@ -204,7 +207,7 @@ pub record BookLimits : Type 0 where
   pub largest-numbers : of3 (Open 4_294_967_295 ∷ []) (Washup 4_294_967_295 4_294_967_294 0 0 1 1 1 ∷ Washup 4_294_967_295 4_294_967_295 0 0 1 1 1 ∷ []) ≡ 0 ∷ 16 ∷ []
   pub no-wrap : of3 (Open 1 ∷ []) (Washup 1 4_294_967_295 0 0 1 1 1 ∷ []) ≡ 16 ∷ []
 
-pub record Limits : Type 0 where
+pub record LimitExamples : Type 0 where
   pub fields : FieldLimits
   pub bytes : ByteLimits
   pub sizes : BookLimits

@@ -1,4 +1,4 @@
--- Demand 3: one claim about a whole list of entries, from a book just made (01, The list of demand 3; 02, c).
+-- Demand 3: one claim about a whole list of entries, from a book just made (01, The list of demand 3; 02, c and f).
 use Prim.Native.Nat.{ℕ, _+_, _-_, _*_, _≤_, _<_}
 use mathlib.Core.Path.{_≡_}
 use mathlib.Core.Bool.{true, cond}
@@ -139,6 +139,7 @@ module _ (n : ℕ) (retained : Account → ℕ → ℕ) where
     pub nothing-cut-off : (k : ℕ) → WasSettled k (h .log) → (i : ℕ) → i < n → NothingCutOff (account k (h .log)) i
     pub paid-within : (k : ℕ) → sum (account k (h .log) .paid) n ≤ sum (received n (account k (h .log))) n
 
--- a book made with anything, and any list of entries with any payout words; n, groups and reserves are those it was made with
+-- a book made with anything, of any limits, and any list of entries with any payout words; n, groups and reserves are those it was
+-- made with
 abbrev pub Demand3 : Type 0
 Demand3 = (m : Making) (inputs : List Input) → Clauses (m .n) (retention (m .n) (m .grouping)) (after (begun m) inputs)

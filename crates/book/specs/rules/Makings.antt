@@ -38,7 +38,7 @@ groupingOf m = record { groups = cells (at (m .grouping .groups)) (m .n); reserv
 abbrev pub kept : Making → Making
 kept m = record { n = m .n; grouping = groupingOf m; limits = m .limits }
 
--- and what a refused one has: no participants, and no room for any
+-- and what a refused one has: no participants, and limits of 0
 abbrev pub noMaking : Making
 noMaking = record {
   n = 0;
@@ -66,12 +66,13 @@ pub record RefusedBook : Type 0 where
   pub same : (m : Making) → (made m .answer ≡ 0 → ⊥) → made m .state ≡ emptyState noMaking
   pub answers : (m : Making) → (made m .answer ≡ 0 → ⊥) → (x : Input) → step (made m .state) x .answer ≡ 4
 
--- each participant in a group of its own, and no reserves: what 01 has, and the listing makes (02, a)
+-- each participant in a group of its own, and no reserves, in a book of these limits: what 01 has, and the listing makes (02, a
+-- and f)
 abbrev pub separate : ℕ → Limits → Making
 separate n limits = record { n = n; grouping = record { groups = cells (λ i. i) places; reserves = zeros groupCount }; limits = limits }
 
--- where each participant is given a group of its own, and no reserve, the book is made and has 01's retention; so it is with
--- the listing's (02, a)
+-- where each participant is given a group of its own, and no reserve, the book is made if n and the limits are within theirs, and
+-- has 01's retention; so it is with the listing's (02, a)
 pub record SeparateBooks : Type 0 where
   pub accepted : (m : Making) → Separate (m .n) (m .grouping) → 1 ≤ m .n → m .n ≤ m .limits .participants → 1 ≤ m .limits .periods
       → UpTo market (m .limits) → made m .answer ≡ 0

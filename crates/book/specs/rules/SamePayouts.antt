@@ -1,4 +1,4 @@
--- A book of higher limits pays the same (02, f).
+-- A book whose limits are not below those of another pays the same (02, f).
 use mathlib.Core.Path.{_≡_}
 use mathlib.Core.List.{List, map}
 use Prim.Native.Nat.{ℕ}
@@ -16,28 +16,28 @@ use Rattle.book.specs.declared.makings.Making.{Making}
 abbrev pub repliesFrom : Making → List Input → List Reply
 repliesFrom m inputs = replies (pack (made m .state)) inputs
 
--- the book accepts the list throughout
-abbrev pub AcceptsAll : Making → List Input → Type 0
-AcceptsAll m inputs = All (λ (r : Reply). r .answer ≡ 0) (repliesFrom m inputs)
+-- every entry is accepted
+abbrev pub AllAccepted : List Reply → Type 0
+AllAccepted l = All (λ (r : Reply). r .answer ≡ 0) l
 
 -- the payout words, entry by entry
-abbrev pub payouts : Making → List Input → List (List ℕ)
-payouts m inputs = map (λ (r : Reply). r .words) (repliesFrom m inputs)
+abbrev pub payouts : List Reply → List (List ℕ)
+payouts l = map (λ (r : Reply). r .words) l
 
 -- b accepts the list throughout, with the payouts of a
 pub record PaysAlike (a b : Making) (inputs : List Input) : Type 0 where
-  pub accepted : AcceptsAll b inputs
-  pub same : payouts b inputs ≡ payouts a inputs
+  pub accepted : AllAccepted (repliesFrom b inputs)
+  pub same : payouts (repliesFrom b inputs) ≡ payouts (repliesFrom a inputs)
 
 -- a making of these participants in their groups, with limits
 abbrev pub limitedTo : Limits → ℕ → Grouping → Making
 limitedTo limits n grouping = record { n = n; grouping = grouping; limits = limits }
 
 -- so it is with every list that a accepts throughout, where b has the same n, groups and reserves, and limits that are not below
--- those of a; and so with a demonstration book and a market book
+-- those of a, and up to the market's; and so with a demonstration book and a market book
 pub record SamePayouts : Type 0 where
   pub any : (a b : Making) → Agree a b → UpTo (b .limits) (a .limits) → UpTo market (b .limits)
-      → (inputs : List Input) → AcceptsAll a inputs → PaysAlike a b inputs
+      → (inputs : List Input) → AllAccepted (repliesFrom a inputs) → PaysAlike a b inputs
   pub demonstrated : (n : ℕ) (grouping : Grouping) (inputs : List Input)
       → let a = limitedTo demonstration n grouping in
-      AcceptsAll a inputs → PaysAlike a (limitedTo market n grouping) inputs
+      AllAccepted (repliesFrom a inputs) → PaysAlike a (limitedTo market n grouping) inputs

@@ -1,5 +1,5 @@
 use mathlib.Core.Path.{_≡_, sym, _∙_}
-use mathlib.Core.Bool.{true}
+use mathlib.Core.Bool.{true, false}
 use native.Mathlib.Omega.{arith}
 use borrow.Author.Tests.{not-true, not-false}
 use borrow.Author.Needs.{needs}
@@ -32,7 +32,10 @@ is-within-requires-3 : tie.Need-is-within-requires-3
 is-within-requires-3 c κs = search needs
 
 returns-3 : tie.Need-returns-3
-returns-3 c = rw (participants-within (c .before .before .before .before), periods-within (c .before .before), sym (c .before .is-within3 .ensures) ∙ not-true _ (c .if3 .taken))
+returns-3 c =
+    let m = c .before .before .before .before .before .before .args .m in
+    let outside : within (m .limits .participants) (m .n) ≡ false = sym (c .before .is-within3 .ensures) ∙ not-true _ (c .if3 .taken) in
+    rw (participants-within (c .before .before .before .before), periods-within (c .before .before), outside)
 
 -- and n within the participant limit
 n-within : (c : tie.Else3) → let m = c .before .before .before .before .before .before .args .m in within (m .limits .participants) (m .n) ≡ true

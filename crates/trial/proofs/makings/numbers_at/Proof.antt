@@ -2,18 +2,19 @@ use borrow.Author.Needs.{needs}
 use Prim.Native.Nat.{ℕ, _+_, _-_, _*_, _≤_, _<_}
 use native.Mathlib.Omega.{arith}
 use native.Mathlib.Nat.{mul-le-mul, le-refl, add-mul, one-mul}
+use Rattle.settlement.specs.Groups.{groupCount}
 use Rattle.trial.proofs.makings.numbers_at.Statement.{statement}
 use Rattle.trial.proofs.makings.numbers_at.Tie as tie
 
 abbrev Inv-loop : tie.InvT-loop
-Inv-loop s place width numbers₀ i₀ numbers i = i ≤ 64
+Inv-loop s place width numbers₀ i₀ numbers i = i ≤ groupCount
 
 abbrev μ-loop : tie.MeasureT-loop
-μ-loop s place width numbers₀ i₀ numbers i = 64 - i
+μ-loop s place width numbers₀ i₀ numbers i = groupCount - i
 
 -- a number ends where all of them do, or before
-ends : (i width : ℕ) → i < 64 → i * width + width ≤ 64 * width
-ends i width h = omega (arith, (let more : (i + 1) * width ≤ 64 * width = mul-le-mul (omega arith) (le-refl width) in more), add-mul i 1 width, one-mul width)
+ends : (i width : ℕ) → i < groupCount → i * width + width ≤ groupCount * width
+ends i width h = omega (arith, (let more : (i + 1) * width ≤ groupCount * width = mul-le-mul (omega arith) (le-refl width) in more), add-mul i 1 width, one-mul width)
 
 loop-holds : tie.Need-loop-holds Inv-loop μ-loop
 loop-holds c = search needs
