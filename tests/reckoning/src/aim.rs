@@ -1,7 +1,7 @@
 //! Proposes the next entry for a book, aiming by a copy of it: mostly entries
 //! that fit the book as it stands, so that many months come to settlement.
 
-use crate::book::{Book, MOST_PERIODS, MOST_TOTAL};
+use crate::book::{Book, MOST_TOTAL};
 use crate::codec::Entry;
 use crate::energies::{self, Energy};
 use crate::making::Making;
@@ -32,8 +32,8 @@ pub struct Manner {
     pub scale: Scale,
     /// So many of 100 proposals are meant to be refused.
     pub wrong: u64,
-    /// How many periods the book should have at once.
-    pub periods: usize,
+    /// How many periods the book should have at once, where it can.
+    pub periods: u64,
     /// About how many amounts a month has before its sides are made equal.
     pub amounts: u64,
     /// The most that a new period is above the highest.
@@ -57,6 +57,8 @@ pub struct Aim {
 impl Aim {
     pub fn new(random: Random, making: &Making, manner: Manner) -> Aim {
         let (book, closing) = (Book::make(making).0, BTreeSet::new());
+        let periods = manner.periods.min(making.limits.periods);
+        let manner = Manner { periods, ..manner };
         Aim { random, book, manner, closing, last_washup: None }
     }
 
@@ -73,8 +75,8 @@ impl Aim {
         if self.random.chance(self.manner.purses, 100) {
             return self.early_money();
         }
-        let count = self.book.periods.len();
-        let haste = if self.manner.periods == MOST_PERIODS { 2 } else { 5 };
+        let count = self.book.periods.len() as u64;
+        let haste = if self.manner.periods == self.book.limits().periods { 2 } else { 5 };
         let wanted = count < self.manner.periods && self.random.chance(1, haste);
         if count == 0 || wanted {
             return self.opening();

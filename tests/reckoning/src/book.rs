@@ -3,6 +3,7 @@
 use crate::codec::{
     Entry, Field, AMOUNT, ENERGY, MOST_CENTS, NOTICE, OPEN, PURSE, RECEIPT, SETTLE, WASHUP,
 };
+use crate::limits::Limits;
 use crate::making::Making;
 use crate::month;
 use crate::period::{Period, Stage};
@@ -12,8 +13,6 @@ use crate::washup::Addition;
 use crate::ways::{self, Ways};
 use std::collections::BTreeMap;
 
-pub const MOST_PARTICIPANTS: u64 = 64;
-pub const MOST_PERIODS: usize = 12;
 /// Each side's total over a period is at most this.
 pub const MOST_TOTAL: u128 = MOST_CENTS as u128;
 
@@ -34,6 +33,8 @@ pub struct Book {
     pub highest: u32,
     /// The periods in the book; the oldest has the lowest number.
     pub periods: BTreeMap<u32, Period>,
+    /// How many periods were ever opened, which only a wrong version looks at.
+    pub opened: u64,
     /// Each participant's purse.
     pub purses: Vec<u128>,
 }
@@ -78,7 +79,17 @@ impl Book {
     /// The book of a making, without a test of it.
     pub(crate) fn with(making: Making) -> Book {
         let (n, periods) = (making.n as usize, BTreeMap::new());
-        Book { n, making, ways: ways::RIGHT, highest: 0, periods, purses: vec![0; n] }
+        let (ways, purses) = (ways::RIGHT, vec![0; n]);
+        Book { n, making, ways, highest: 0, periods, opened: 0, purses }
+    }
+
+    pub fn limits(&self) -> Limits {
+        self.making.limits
+    }
+
+    /// Whether as many periods as the period limit are in the book.
+    pub fn is_full(&self) -> bool {
+        self.periods.len() as u64 == self.limits().periods
     }
 
     /// The cents held in the book.
@@ -145,7 +156,7 @@ impl Book {
         if period <= self.highest {
             return Some(NOT_ABOVE_HIGHEST);
         }
-        (self.periods.len() == MOST_PERIODS).then_some(TWELVE_PERIODS)
+        (self.ways.full)(self).then_some(PERIODS_AT_LIMIT)
     }
 
     fn refusal_of_purse(&self, entry: &Entry) -> Option<u8> {
@@ -215,6 +226,7 @@ impl Book {
         match entry.kind {
             OPEN => {
                 self.highest = entry.period;
+                self.opened += 1;
                 self.periods.insert(entry.period, Period::new(self.n));
                 (vec![0; self.n], 0)
             }

@@ -18,6 +18,15 @@ pub fn book_in_groups(making: &Making) -> Vec<u8> {
     bytes
 }
 
+/// As `book_in_groups`, with the making's limits.
+pub fn book_of_limits(making: &Making) -> Vec<u8> {
+    let mut bytes = book_in_groups(making);
+    bytes[0] = b'L';
+    bytes.extend(making.limits.participants.to_le_bytes());
+    bytes.extend(making.limits.periods.to_le_bytes());
+    bytes
+}
+
 fn with_entry(call: u8, entry: &Entry, last: u8) -> Vec<u8> {
     let mut bytes = vec![call, entry.kind];
     for field in CALL_FIELDS {

@@ -160,7 +160,7 @@ fn chosen_feeds() -> Vec<(String, Vec<u8>)> {
         (5, "hundreds"),
         (3, "millions"),
         (1, "wide"),
-        (1, "twelve"),
+        (1, "full"),
         (1, "purses"),
         (4, "purses"),
         (1, "washups"),

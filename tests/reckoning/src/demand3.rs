@@ -6,9 +6,11 @@ use crate::book::{cents, tier};
 use crate::codec::{
     self, Entry, Field, AMOUNT, ENERGY, NOTICE, OPEN, PURSE, RECEIPT, SETTLE, WASHUP,
 };
+use crate::counts_of_limits::Openings;
 use crate::counts_of_washups::Washups;
 use crate::draws::Draws;
 use crate::halves::{Half, Halves};
+use crate::limits::{Limits, MARKET};
 use crate::lines::{self, Line};
 use crate::making::Making;
 use crate::month;
@@ -30,6 +32,8 @@ pub struct Count {
     pub draws: Draws,
     /// And of washups.
     pub washups: Washups,
+    /// And of openings about the period limit.
+    pub openings: Openings,
 }
 
 struct Ledger {
@@ -179,9 +183,14 @@ impl Ledger {
 
 /// Checks demand 3 on a feed and the listing printed for it.
 pub fn check_listing(feed: &[u8], listing: &[u8]) -> Result<Count, String> {
+    check_within(MARKET, feed, listing)
+}
+
+/// The same of a book of some limits.
+pub fn check_within(limits: Limits, feed: &[u8], listing: &[u8]) -> Result<Count, String> {
     let printed = lines::parse(listing)?;
-    let n = feed.first().map_or(0, |&n| if n <= 64 { usize::from(n) } else { 0 });
-    let mut ledger = Ledger::new(n);
+    let n = feed.first().copied().filter(|&n| limits.take(n.into()));
+    let mut ledger = Ledger::new(n.map_or(0, usize::from));
     let mut place = 1;
     for (at, line) in printed.iter().enumerate() {
         let number = at as u64 + 1;

@@ -89,7 +89,7 @@ fn hold(feed: &[u8]) -> (u64, u64) {
 fn what_is_drawn_is_a_receipt_before_the_settle_entry() {
     let (mut drawn, mut barred) = (0, 0);
     let purses = (0..120).map(|seed| (seed, "purses"));
-    for (seed, kind) in purses.chain((0..10).flat_map(|seed| [(seed, "wide"), (seed, "twelve")])) {
+    for (seed, kind) in purses.chain((0..10).flat_map(|seed| [(seed, "wide"), (seed, "full")])) {
         let counts = hold(&feeds::feed(seed, kind).unwrap());
         drawn += counts.0;
         barred += counts.1;

@@ -3,6 +3,7 @@
 use crate::aim::{Aim, Manner, Scale};
 use crate::book::{Book, Make};
 use crate::codec::{Entry, LAST_KIND, MOST_CENTS};
+use crate::limits::{Limits, MARKET};
 use crate::making::Making;
 use crate::random::Random;
 use crate::rounds;
@@ -27,12 +28,12 @@ pub const KINDS: [Kind; 16] = [
     kind("millions", 60, 600),
     // Amounts about the bound of a side's total.
     kind("bound", 80, 500),
-    // n of 63 and 64.
+    // n of 63 and 64: one below the participant limit, and at it.
     kind("wide", 40, 3_000),
     // n of 7 to 62.
     kind("middle", 30, 1_500),
-    // Twelve periods at once, and openings of a thirteenth.
-    kind("twelve", 50, 1_200),
+    // Twelve periods at once, which is the period limit, and openings of one more.
+    kind("full", 50, 1_200),
     // Months whose settlement runs many rounds; so many months, not entries.
     kind("rounds", 40, 8),
     // Half of the entries are meant to be refused.
@@ -43,7 +44,7 @@ pub const KINDS: [Kind; 16] = [
     kind("cut", 120, 60),
     // Random bytes.
     kind("noise", 60, 40),
-    // n of 0 and above 64.
+    // n of 0 and above the participant limit.
     kind("refused-n", 30, 40),
     // 100,000 entries.
     kind("long", 5, 100_000),
@@ -53,7 +54,7 @@ pub const KINDS: [Kind; 16] = [
     kind("washups", 120, 600),
 ];
 
-fn manner(name: &str, random: &mut Random, n: u64) -> Manner {
+fn manner(name: &str, limits: Limits, random: &mut Random, n: u64) -> Manner {
     let scale = match name {
         "few" | "highest" => Scale::Few,
         "hundreds" => Scale::Hundreds,
@@ -63,8 +64,8 @@ fn manner(name: &str, random: &mut Random, n: u64) -> Manner {
         _ => random.pick(&[Scale::Few, Scale::Few, Scale::Hundreds, Scale::Millions, Scale::Bound]),
     };
     let periods = match name {
-        "twelve" => 12,
-        "purses" => random.pick(&[2, 3, 4, 12]),
+        "full" => limits.periods,
+        "purses" => random.pick(&[2, 3, 4, limits.periods]),
         _ => random.pick(&[1, 2, 3, 4, 7]),
     };
     let wrong = match name {
@@ -91,38 +92,45 @@ fn manner(name: &str, random: &mut Random, n: u64) -> Manner {
     Manner { scale, wrong, periods, amounts: n + 3, step, purses, washups }
 }
 
-fn participants(name: &str, seed: u64, random: &mut Random) -> u64 {
+/// n, for a book of some limits.
+fn participants(name: &str, limits: Limits, seed: u64, random: &mut Random) -> u64 {
+    let most = limits.participants;
     match name {
         "few" | "bound" => 1 + seed % 6,
-        "wide" => 63 + seed % 2,
-        "middle" => random.between(7, 62),
-        "rounds" => random.between(4, 64),
-        "long" => [3, 64, 2, 5, 6][(seed % 5) as usize],
-        "refused-n" => [0, 65, 255, random.between(66, 254)][(seed % 4) as usize],
-        "twelve" | "purses" | "washups" => random.between(2, 6),
-        "cut" | "wrong" => random.pick(&[1, 2, 3, 4, 5, 6, 63, 64]),
+        "wide" => most - 1 + seed % 2,
+        "middle" => random.between(7.min(most - 2), most - 2),
+        "rounds" => random.between(4, most),
+        "long" => [3, most, 2, 5, 6][(seed % 5) as usize],
+        "refused-n" => [0, most + 1, 255, random.between(most + 2, 254)][(seed % 4) as usize],
+        "full" | "purses" | "washups" => random.between(2, 6),
+        "cut" | "wrong" => random.pick(&[1, 2, 3, 4, 5, 6, most - 1, most]),
         _ => random.between(1, 6),
     }
 }
 
 /// The feed of a kind for a seed; nothing for a kind that does not exist.
 pub fn feed(seed: u64, name: &str) -> Option<Vec<u8>> {
-    feed_by(Book::make, seed, name)
+    feed_within(MARKET, seed, name)
+}
+
+/// The same for a book of some limits.
+pub fn feed_within(limits: Limits, seed: u64, name: &str) -> Option<Vec<u8>> {
+    feed_by((limits, Book::make), seed, name)
 }
 
 /// The same, aimed by a book that is made so.
-pub fn feed_by(make: Make, seed: u64, name: &str) -> Option<Vec<u8>> {
+pub fn feed_by((limits, make): (Limits, Make), seed: u64, name: &str) -> Option<Vec<u8>> {
     let place = KINDS.iter().position(|kind| kind.name == name)?;
     let mut random = Random::new(seed.wrapping_mul(64).wrapping_add(place as u64));
     if name == "noise" {
         return Some(noise(&mut random));
     }
-    let n = participants(name, seed, &mut random);
+    let n = participants(name, limits, seed, &mut random);
+    let making = Making::within(limits, n);
     if name == "rounds" {
-        return Some(months_of_rounds(&mut random, n, KINDS[place].entries));
+        return Some(months_of_rounds(&mut random, &making, KINDS[place].entries));
     }
-    let manner = manner(name, &mut random, n);
-    let making = Making::alone(n);
+    let manner = manner(name, limits, &mut random, n);
     let mut aim = Aim::new(random, &making, manner);
     aim.book = make(&making).0;
     let mut bytes = vec![n as u8];
@@ -137,9 +145,9 @@ pub fn feed_by(make: Make, seed: u64, name: &str) -> Option<Vec<u8>> {
     Some(bytes)
 }
 
-fn months_of_rounds(random: &mut Random, n: u64, months: u64) -> Vec<u8> {
-    let mut book = Book::alone(n);
-    let mut bytes = vec![n as u8];
+fn months_of_rounds(random: &mut Random, making: &Making, months: u64) -> Vec<u8> {
+    let mut book = Book::make(making).0;
+    let mut bytes = vec![making.n as u8];
     for _ in 0..months {
         bytes.extend(rounds::month(random, &mut book).iter().flat_map(Entry::bytes));
     }

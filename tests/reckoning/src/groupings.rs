@@ -1,5 +1,6 @@
 //! Groups of every shape and reserves of every kind, drawn and told apart.
 
+use crate::limits::MARKET;
 use crate::making::{Making, GROUPS, LAST_GROUP, MOST_RESERVE};
 use crate::random::Random;
 use std::array;
@@ -191,7 +192,7 @@ pub fn making(random: &mut Random, n: u64, shape: Shape, reserves: Reserves) -> 
         let past = random.pick(&[any, any, i as u8, 0, 63, 64, 255]);
         numbers.get(i).copied().unwrap_or(past)
     });
-    Making { n, groups, reserves }
+    Making { n, groups, reserves, limits: MARKET }
 }
 
 /// An accepted making of n participants, of any shape and with reserves of any kind.

@@ -3,6 +3,7 @@
 use crate::book::Book;
 use crate::codec::LAST_KIND;
 use crate::demand3::{self, Count};
+use crate::limits::{Limits, MARKET};
 use crate::listing;
 use crate::refusals::NUMBERS;
 use crate::trial::{self, Seen};
@@ -36,11 +37,16 @@ pub fn difference_after(lines: u64, reckoned: &[u8], found: &[u8]) -> Option<Str
 
 /// What the listing found for a feed came to, or how it differs.
 pub fn judge_listing(feed: &[u8], found: &[u8]) -> Result<Count, String> {
-    let by_demand_3 = demand3::check_listing(feed, found);
-    let (reckoned, seen) = listing::lines_by(Book::make, feed);
-    let listing::Seen { draws, washups } = seen;
+    judge_within(MARKET, feed, found)
+}
+
+/// The same of a listing in a book of some limits.
+pub fn judge_within(limits: Limits, feed: &[u8], found: &[u8]) -> Result<Count, String> {
+    let by_demand_3 = demand3::check_within(limits, feed, found);
+    let (reckoned, seen) = listing::lines_within(limits, Book::make, feed);
+    let listing::Seen { draws, washups, openings } = seen;
     match (first_difference(&reckoned, found), by_demand_3) {
-        (None, result) => result.map(|count| Count { draws, washups, ..count }),
+        (None, result) => result.map(|count| Count { draws, washups, openings, ..count }),
         (Some(difference), Ok(_)) => Err(difference),
         (Some(difference), Err(what)) => Err(format!("{difference}; {what}")),
     }

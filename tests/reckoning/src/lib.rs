@@ -1,4 +1,4 @@
-//! A reckoning of 01, with requests a to e of 02, on u128, written from the rules alone. It
+//! A reckoning of 01, with requests a to f of 02, on u128, written from the rules alone. It
 //! shares no code and no definitions with the clearing book that is tested by it.
 
 mod accounts;
@@ -13,6 +13,7 @@ pub mod cases_of_purses;
 pub mod cases_of_washups;
 pub mod codec;
 pub mod compare;
+pub mod counts_of_limits;
 pub mod counts_of_washups;
 pub mod damage;
 pub mod demand3;
@@ -26,6 +27,7 @@ pub mod halves;
 pub mod handover;
 pub mod judge;
 pub mod kinds;
+pub mod limits;
 pub mod lines;
 pub mod listing;
 mod maker;
@@ -64,6 +66,7 @@ pub mod versions_of_halves;
 pub mod versions_of_purses;
 pub mod versions_of_washups;
 pub mod washup;
+pub mod watch_of_limits;
 pub mod watch_of_purses;
 pub mod watch_of_washups;
 pub mod ways;

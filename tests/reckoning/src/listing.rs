@@ -2,10 +2,13 @@
 
 use crate::book::{Book, Make};
 use crate::codec::{self, Entry, LONGEST_ENTRY};
+use crate::counts_of_limits::Openings;
 use crate::counts_of_washups::Washups;
 use crate::draws::Draws;
+use crate::limits::{Limits, MARKET};
 use crate::making::Making;
 use crate::refusals::ACCEPTED;
+use crate::watch_of_limits;
 use crate::watch_of_purses;
 use crate::watch_of_washups;
 use std::io::{self, Read, Write};
@@ -80,9 +83,9 @@ pub(crate) fn print_entry(
     Ok(())
 }
 
-/// Prints the listing of a feed, reading the feed in blocks.
-pub fn list(input: impl Read, out: &mut impl Write) -> io::Result<()> {
-    list_by(Book::make, input, out, None)
+/// Prints the listing of a feed in a book of some limits, reading the feed in blocks.
+pub fn list(limits: Limits, input: impl Read, out: &mut impl Write) -> io::Result<()> {
+    list_by((limits, Book::make), input, out, None)
 }
 
 /// What was seen in a listing.
@@ -90,6 +93,7 @@ pub fn list(input: impl Read, out: &mut impl Write) -> io::Result<()> {
 pub struct Seen {
     pub draws: Draws,
     pub washups: Washups,
+    pub openings: Openings,
 }
 
 /// Watches the entries of a listing.
@@ -97,11 +101,12 @@ pub struct Seen {
 struct Watch {
     purses: watch_of_purses::Watch,
     washups: watch_of_washups::Watch,
+    limits: watch_of_limits::Watch,
 }
 
 /// Prints the listing of a feed where books are made so, and counts what is seen, if asked.
 fn list_by(
-    make: Make,
+    (limits, make): (Limits, Make),
     input: impl Read,
     out: &mut impl Write,
     mut watch: Option<&mut Watch>,
@@ -111,7 +116,7 @@ fn list_by(
     let Some(n) = feed.n()? else {
         return Ok(());
     };
-    let mut book = make(&Making::alone(n.into())).0;
+    let mut book = make(&Making::within(limits, n.into())).0;
     let mut number = 0;
     while let Some(found) = feed.next()? {
         number += 1;
@@ -123,11 +128,13 @@ fn list_by(
         if let Some(watch) = &mut watch {
             watch.purses.before(&book, &entry);
             watch.washups.before(&book, &entry);
+            watch.limits.before(&book, &entry);
         }
         let answer = book.apply(&entry, &mut words).number;
         if let Some(watch) = &mut watch {
             watch.purses.after(answer);
             watch.washups.after(answer);
+            watch.limits.after(&book, answer);
         }
         let payouts = if answer == ACCEPTED { &words[..] } else { &[] };
         print_entry(out, number, answer, payouts, book.held())?;
@@ -137,12 +144,23 @@ fn list_by(
 
 /// The listing of a feed that is in memory, where books are made so, and what was seen.
 pub fn lines_by(make: Make, feed: &[u8]) -> (Vec<u8>, Seen) {
+    lines_within(MARKET, make, feed)
+}
+
+/// The same in a book of some limits.
+pub fn lines_within(limits: Limits, make: Make, feed: &[u8]) -> (Vec<u8>, Seen) {
     let (mut out, mut watch) = (Vec::new(), Watch::default());
-    list_by(make, feed, &mut out, Some(&mut watch)).expect("memory takes every byte");
-    (out, Seen { draws: watch.purses.draws, washups: watch.washups.counts })
+    list_by((limits, make), feed, &mut out, Some(&mut watch)).expect("memory takes every byte");
+    let (washups, openings) = (watch.washups.counts, watch.limits.counts.openings);
+    (out, Seen { draws: watch.purses.draws, washups, openings })
 }
 
 /// The listing of a feed that is in memory.
 pub fn listing(feed: &[u8]) -> Vec<u8> {
-    lines_by(Book::make, feed).0
+    listing_within(MARKET, feed)
+}
+
+/// The same in a book of some limits.
+pub fn listing_within(limits: Limits, feed: &[u8]) -> Vec<u8> {
+    lines_within(limits, Book::make, feed).0
 }

@@ -1,5 +1,6 @@
 //! The reckoning as a program; `reckoning` alone prints its uses.
 
+use reckoning::limits::{Limits, DEMONSTRATION, MARKET};
 use reckoning::soak::Plan;
 use reckoning::{compare, example_feeds, feeds, listing, malformed, pairs, selftest, soak, trial};
 use std::io::{self, BufReader, BufWriter, Write};
@@ -9,11 +10,12 @@ const USES: &str = "uses:
   reckoning compare --listing PATH --trial PATH
   reckoning selftest
   reckoning listing < FEED
+  reckoning demonstration < FEED
   reckoning trial < CALLS
   reckoning feed SEED KIND > FEED
   reckoning example month-a|purse|washup > FEED
   reckoning pairs
-  reckoning soak --listing PATH --n N --entries COUNT --months COUNT
+  reckoning soak --listing|--demonstration PATH --n N --entries COUNT --months COUNT
   reckoning malformed --listing PATH --feeds COUNT
 kinds of feed:";
 
@@ -64,10 +66,19 @@ fn print_pairs(out: &mut impl Write) -> io::Result<()> {
     Ok(())
 }
 
-fn run_soak(listing: &str, n: &str, entries: &str, months: &str) -> ExitCode {
+/// The limits of the book that a program makes, by the option that names it.
+fn limits_of(option: &str) -> Option<Limits> {
+    match option {
+        "--listing" => Some(MARKET),
+        "--demonstration" => Some(DEMONSTRATION),
+        _ => None,
+    }
+}
+
+fn run_soak(limits: Limits, path: &str, [n, entries, months]: [&str; 3]) -> ExitCode {
     match (n.parse(), entries.parse(), months.parse()) {
         (Ok(n), Ok(entries), Ok(months)) => {
-            status(soak::soak(listing, Plan { n, entries, months }))
+            status(soak::soak(path, Plan { limits, n, entries, months }))
         }
         _ => print_uses(),
     }
@@ -80,15 +91,19 @@ fn main() -> ExitCode {
         ["compare", "--listing", listing, "--trial", trial] => {
             status(compare::compare(listing, trial))
         }
-        ["soak", "--listing", listing, "--n", n, "--entries", entries, "--months", months] => {
-            run_soak(listing, n, entries, months)
+        ["soak", book, path, "--n", n, "--entries", entries, "--months", months] => {
+            match limits_of(book) {
+                Some(limits) => run_soak(limits, path, [n, entries, months]),
+                None => print_uses(),
+            }
         }
         ["malformed", "--listing", listing, "--feeds", feeds] => match feeds.parse() {
             Ok(feeds) => status(malformed::malformed(listing, feeds)),
             Err(_) => print_uses(),
         },
         ["selftest"] => status(selftest::selftest()),
-        ["listing"] => print(|out| listing::list(io::stdin(), out)),
+        ["listing"] => print(|out| listing::list(MARKET, io::stdin(), out)),
+        ["demonstration"] => print(|out| listing::list(DEMONSTRATION, io::stdin(), out)),
         ["trial"] => print(|out| trial::run(BufReader::new(io::stdin()), out)),
         ["pairs"] => print(print_pairs),
         ["feed", seed, kind] => print_feed(seed, kind),

@@ -1,13 +1,13 @@
-//! What a book is made with (02, a): n, a group number for each participant, and a
-//! GST reserve for each group.
+//! What a book is made with: n, a group number for each participant and a GST reserve for each
+//! group (02, a), and its limits (02, f).
 
-use crate::book::MOST_PARTICIPANTS;
 use crate::codec::MOST_CENTS;
+use crate::limits::{Limits, MARKET, MOST_PARTICIPANTS};
 use crate::refusals::{FIELD_OUTSIDE, N_REFUSED};
 use std::array;
 
 /// Both come as so many values.
-pub const GROUPS: usize = 64;
+pub const GROUPS: usize = MOST_PARTICIPANTS as usize;
 pub const LAST_GROUP: u8 = 63;
 /// The largest GST reserve.
 pub const MOST_RESERVE: u64 = MOST_CENTS;
@@ -19,22 +19,28 @@ pub struct Making {
     pub groups: [u8; GROUPS],
     /// By group, in cents.
     pub reserves: [u64; GROUPS],
+    pub limits: Limits,
 }
 
 impl Making {
-    /// Participant i in group i, and no reserves, as the listing makes a book.
+    /// Participant i in group i, no reserves and the market's limits, as the listing makes a book.
     pub fn alone(n: u64) -> Making {
-        Making { n, groups: array::from_fn(|i| i as u8), reserves: [0; GROUPS] }
+        Making::within(MARKET, n)
     }
 
-    /// The group numbers of the participants that there are; n is not above 64.
+    /// The same, of other limits.
+    pub fn within(limits: Limits, n: u64) -> Making {
+        Making { n, groups: array::from_fn(|i| i as u8), reserves: [0; GROUPS], limits }
+    }
+
+    /// The group numbers of the participants that there are; n is not above the market's limit.
     pub fn numbers(&self) -> &[u8] {
         &self.groups[..self.n as usize]
     }
 
     /// The refusal that a book made so gets, if any: 4 before 3.
     pub fn refusal(&self) -> Option<u8> {
-        if self.n == 0 || self.n > MOST_PARTICIPANTS {
+        if !self.limits.take(self.n) {
             return Some(N_REFUSED);
         }
         let numbers_stand = self.numbers().iter().all(|&group| group <= LAST_GROUP);

@@ -5,12 +5,13 @@ pub const ACCEPTED: u8 = 0;
 pub const TOO_FEW_BYTES: u8 = 1;
 pub const KIND_UNKNOWN: u8 = 2;
 pub const FIELD_OUTSIDE: u8 = 3;
-/// n is 0 or above 64.
+/// n is 0 or above the participant limit, or a limit is outside its values (02, f).
 pub const N_REFUSED: u8 = 4;
 /// Fewer than n payout words, or fewer bytes than the writer needs.
 pub const TOO_LITTLE_LENT: u8 = 5;
 pub const NOT_ABOVE_HIGHEST: u8 = 6;
-pub const TWELVE_PERIODS: u8 = 7;
+/// As many periods as the period limit are in the book.
+pub const PERIODS_AT_LIMIT: u8 = 7;
 pub const PERIOD_NOT_IN_BOOK: u8 = 8;
 pub const WRONG_STAGE: u8 = 9;
 pub const SIDES_UNEQUAL: u8 = 10;

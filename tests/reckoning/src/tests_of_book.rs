@@ -3,6 +3,7 @@
 use crate::book::{Answer, Book};
 use crate::calls;
 use crate::codec::{Entry, MOST_CENTS};
+use crate::limits::{Limits, DEMONSTRATION, MOST_PERIODS};
 use crate::making::{Making, MOST_RESERVE};
 
 /// A book of three with period 2 settled with arrears of payer 0, 3 after its
@@ -141,6 +142,41 @@ fn a_period_that_left_makes_room_but_cannot_come_back() {
     assert_eq!(refused(&mut book, Entry::open(5), 1), 6);
     assert_eq!(book.apply(&Entry::open(u32::MAX), &mut [9]).number, 0);
     assert_eq!(refused(&mut book, Entry::open(u32::MAX), 1), 6);
+}
+
+/// Opened up to the limit, one more is 7, and 6 where it is not above the highest; one that leaves
+/// makes room for the same number.
+#[test]
+fn each_period_limit_is_reported_through_7() {
+    for periods in 1..=MOST_PERIODS {
+        let limits = Limits { participants: 2, periods };
+        let mut book = Book::make(&Making::within(limits, 2)).0;
+        let next = periods as u32 + 1;
+        for period in 1..next {
+            assert_eq!(book.apply(&Entry::open(period), &mut [9; 2]).number, 0, "{limits:?}");
+        }
+        assert_eq!(refused(&mut book, Entry::open(next), 2), 7, "{limits:?}");
+        assert_eq!(refused(&mut book, Entry::open(next - 1), 2), 6, "{limits:?}");
+        assert_eq!(refused(&mut book, Entry::open(next), 1), 5, "{limits:?}");
+        book.apply(&Entry::notice(1), &mut [9; 2]);
+        assert_eq!(refused(&mut book, Entry::open(next), 2), 7, "{limits:?}");
+        book.apply(&Entry::settle(1), &mut [9; 2]);
+        assert_eq!(book.apply(&Entry::open(next), &mut [9; 2]).number, 0, "{limits:?}");
+        assert_eq!(refused(&mut book, Entry::open(next + 1), 2), 7, "{limits:?}");
+    }
+}
+
+/// A settled period with arrears has its place.
+#[test]
+fn a_settled_period_with_arrears_counts_for_7() {
+    let limits = Limits { periods: 1, ..DEMONSTRATION };
+    let mut book = Book::make(&Making::within(limits, 3)).0;
+    for entry in calls::month_a_to_settle(2) {
+        assert_eq!(book.apply(&entry, &mut [9; 3]).number, 0, "{entry:?}");
+    }
+    assert_eq!(refused(&mut book, Entry::open(3), 3), 7);
+    assert_eq!(book.apply(&Entry::receipt(2, 0, 300), &mut [9; 3]).number, 0);
+    assert_eq!(book.apply(&Entry::open(3), &mut [9; 3]).number, 0);
 }
 
 #[test]

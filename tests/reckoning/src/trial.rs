@@ -2,12 +2,15 @@
 
 use crate::book::{Book, Make};
 use crate::codec::{self, Entry, Field};
+use crate::counts_of_limits::Limited;
 use crate::counts_of_washups::Washups;
 use crate::draws::Draws;
 use crate::halves::{Half, Halves};
+use crate::limits::Limits;
 use crate::making::Making;
 use crate::reach::{Reach, Watch};
 use crate::refusals::ACCEPTED;
+use crate::watch_of_limits::{self, Call};
 use crate::watch_of_purses;
 use crate::watch_of_washups;
 use std::io::{self, Read, Write};
@@ -58,7 +61,7 @@ fn with_numbers<T: ToString>(mut line: String, numbers: impl IntoIterator<Item =
     line
 }
 
-/// n, 64 group numbers of a byte each, and 64 reserves of eight bytes each.
+/// n, 64 group numbers of a byte each, and 64 reserves of eight bytes each, for a market book.
 fn take_making(input: &mut impl Read) -> Option<Making> {
     let mut making = Making::alone(take(input, 8)?);
     input.read_exact(&mut making.groups).ok()?;
@@ -66,6 +69,13 @@ fn take_making(input: &mut impl Read) -> Option<Making> {
         *cents = take(input, 8)?;
     }
     Some(making)
+}
+
+/// The same, and then both limits of eight bytes each.
+fn take_limited_making(input: &mut impl Read) -> Option<Making> {
+    let making = take_making(input)?;
+    let limits = Limits { participants: take(input, 8)?, periods: take(input, 8)? };
+    Some(Making { limits, ..making })
 }
 
 /// What was seen in a trial.
@@ -77,6 +87,7 @@ pub struct Seen {
     pub halves: Halves,
     pub draws: Draws,
     pub washups: Washups,
+    pub limits: Limited,
 }
 
 /// The book that calls go to, and what makes the next one.
@@ -87,6 +98,7 @@ struct Trial {
     halves: Halves,
     purses: watch_of_purses::Watch,
     washups: watch_of_washups::Watch,
+    limits: watch_of_limits::Watch,
 }
 
 fn call_read(input: &mut impl Read) -> Option<String> {
@@ -116,29 +128,21 @@ impl Trial {
     fn new(make: Make) -> Trial {
         // Before the first book is made, entries come to one without participants.
         let (watch, halves) = (Watch::default(), Halves::default());
-        let (purses, washups) = Default::default();
-        Trial { book: Book::alone(0), make, watch, halves, purses, washups }
+        let (purses, washups, limits) = Default::default();
+        Trial { book: Book::alone(0), make, watch, halves, purses, washups, limits }
     }
 
-    fn made(&mut self, making: &Making) -> (String, u8) {
-        let (book, answer) = (self.make)(making);
+    fn made(&mut self, call: Call, making: &Making) -> String {
+        let (book, answer) = (self.book.ways.next)(&self.book, self.make, making);
+        match call {
+            Call::B => self.watch.made_alone(),
+            Call::G | Call::L => self.watch.made(answer),
+        }
+        self.limits.made(call, &self.book, making, answer);
         self.book = book;
         self.purses.new_book();
         self.washups.new_book();
-        (format!("book {answer}"), answer)
-    }
-
-    fn call_book(&mut self, input: &mut impl Read) -> Option<String> {
-        let making = Making::alone(take(input, 8)?);
-        self.watch.made_alone();
-        Some(self.made(&making).0)
-    }
-
-    fn call_book_in_groups(&mut self, input: &mut impl Read) -> Option<String> {
-        let making = take_making(input)?;
-        let (line, answer) = self.made(&making);
-        self.watch.made(answer);
-        Some(line)
+        format!("book {answer}")
     }
 
     fn call_apply(&mut self, input: &mut impl Read) -> Option<String> {
@@ -149,9 +153,11 @@ impl Trial {
         let purses = self.book.purses.iter().sum();
         self.purses.before(&self.book, &entry);
         self.washups.before(&self.book, &entry);
+        self.limits.before(&self.book, &entry);
         let answer = self.book.apply(&entry, &mut words);
         self.purses.after(answer.number);
         self.washups.after(answer.number);
+        self.limits.after(&self.book, answer.number);
         self.halves.take(half, answer.number);
         self.watch.applied(&self.book, (before.as_ref(), purses), &entry, answer);
         let line = format!("apply {} {} {}", answer.number, answer.rounds, self.book.held());
@@ -161,8 +167,9 @@ impl Trial {
     /// The line of the next call; nothing where the trial program stops.
     fn call(&mut self, input: &mut impl Read) -> Option<String> {
         match take(input, 1)? as u8 {
-            b'B' => self.call_book(input),
-            b'G' => self.call_book_in_groups(input),
+            b'B' => Some(self.made(Call::B, &Making::alone(take(input, 8)?))),
+            b'G' => Some(self.made(Call::G, &take_making(input)?)),
+            b'L' => Some(self.made(Call::L, &take_limited_making(input)?)),
             b'A' => self.call_apply(input),
             b'R' => call_read(input),
             b'W' => call_write(input),
@@ -188,7 +195,8 @@ pub fn lines_by(make: Make, calls: &[u8]) -> (Vec<u8>, Seen) {
     let (mut trial, mut out) = (Trial::new(make), Vec::new());
     trial.run(calls, &mut out).expect("memory takes every byte");
     let (reach, draws) = (trial.watch.reach, trial.purses.draws);
-    (out, Seen { reach, halves: trial.halves, draws, washups: trial.washups.counts })
+    let (washups, limits) = (trial.washups.counts, trial.limits.counts);
+    (out, Seen { reach, halves: trial.halves, draws, washups, limits })
 }
 
 /// The lines for calls that are in memory.

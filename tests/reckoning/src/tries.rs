@@ -7,6 +7,7 @@ use crate::cases_of_halves;
 use crate::demand3;
 use crate::feeds;
 use crate::judge::first_difference;
+use crate::limits::MARKET;
 use crate::listing;
 use crate::pairs;
 use crate::selftest::Report;
@@ -68,7 +69,7 @@ fn trials_with_washups() -> Vec<Named> {
 fn feeds_of(kind: &str, cases: Vec<Case>, make: Make) -> Vec<Named> {
     let cases = cases.into_iter();
     let cases = cases.map(|case| (format!("feed of {kind}, {}", case.name), case.feed()));
-    let feed = |seed| feeds::feed_by(make, seed, kind).expect("a kind that exists");
+    let feed = |seed| feeds::feed_by((MARKET, make), seed, kind).expect("a kind that exists");
     let seeds = (0..FEEDS).map(|seed| (format!("feed {kind} seed {seed}"), feed(seed)));
     cases.chain(seeds).collect()
 }

@@ -1,8 +1,9 @@
 //! The ways in which a book reckons. Wrong versions, which tests try, differ from the rules' in one
 //! of them or more.
 
-use crate::book::{cents, Answer, Book, Cents};
+use crate::book::{cents, Answer, Book, Cents, Make};
 use crate::codec::Entry;
+use crate::making::Making;
 use crate::retention::{retention, Retention};
 use crate::washup::{self, Addition};
 
@@ -10,6 +11,8 @@ use crate::washup::{self, Addition};
 pub type Drawn = fn(&Book, u32) -> Vec<u128>;
 /// Gives what a washup adds, if anything.
 pub type WashupAdded = fn(&Entry) -> Option<Addition>;
+/// Makes the book that takes this one's place, and gives 0 or the refusal's number.
+pub type Next = fn(&Book, Make, &Making) -> (Book, u8);
 /// Applies an entry; an accepted one sets the first n payout words.
 pub type Applied = fn(&mut Book, &Entry, &mut [u64]) -> Answer;
 
@@ -26,6 +29,9 @@ pub struct Ways {
     /// What a washup adds, and what 11 tests.
     pub washup_added: WashupAdded,
     pub washup_tested: WashupAdded,
+    /// Whether a further opening is 7.
+    pub full: fn(&Book) -> bool,
+    pub next: Next,
     /// Gives the cents held in the book.
     pub held: fn(&Book) -> u128,
     pub applied: Applied,
@@ -40,6 +46,8 @@ pub const RIGHT: Ways = Ways {
     earlier_stands: |_, entry| washup::earlier_stands(entry),
     washup_added: washup::added,
     washup_tested: washup::added,
+    full: Book::is_full,
+    next: |_, make, making| make(making),
     held: Book::all_held,
     applied: Book::applied,
 };

@@ -10,10 +10,10 @@ mod tests;
 
 pub use rotation::Plan;
 
-use crate::book::{MOST_PARTICIPANTS, MOST_PERIODS};
 use crate::compare::print_answers;
 use crate::counts_of_washups;
 use crate::draws::Sight;
+use crate::limits::MOST_PARTICIPANTS;
 use crate::refusals::{EARLIER_PERIOD_OUTSIDE, NOT_ABOVE_HIGHEST, NO_PARTICIPANT};
 use memory::Memory;
 use rotation::{Reach, Rotation};
@@ -112,7 +112,7 @@ fn covered(plan: &Plan, reach: &Reach) -> bool {
     };
     let enough = (NOT_ABOVE_HIGHEST..=EARLIER_PERIOD_OUTSIDE).all(refused)
         && reach.months_opened == plan.months
-        && reach.most_periods == MOST_PERIODS
+        && reach.most_periods == plan.limits.periods
         && count.settled_months > count.months_with_arrears
         && count.months_with_arrears > 0
         && count.months_left > 0
@@ -181,10 +181,14 @@ fn judge(plan: &Plan, soaked: &Soaked) -> bool {
     all && memory && covered
 }
 
-/// Holds the listing at a path to the reckoning over a long feed; true only if all agrees.
-pub fn soak(listing: &str, plan: Plan) -> bool {
-    println!("soak: n {}, {} entries over {} months", plan.n, plan.entries, plan.months);
-    match run(listing, plan) {
+/// Holds the program at a path, whose book has the plan's limits, to the reckoning over a long feed;
+/// true only if all agrees.
+pub fn soak(path: &str, plan: Plan) -> bool {
+    println!(
+        "soak: n {}, at most {} periods, {} entries over {} months",
+        plan.n, plan.limits.periods, plan.entries, plan.months
+    );
+    match run(path, plan) {
         Ok(soaked) => judge(&plan, &soaked),
         Err(what) => {
             println!("{what}");

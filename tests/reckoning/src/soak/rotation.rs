@@ -1,12 +1,13 @@
 //! A feed over many months of one book, made entry by entry. Each period is
-//! opened, noticed, settled and paid off by its age, so that twelve are in rotation.
+//! opened, noticed, settled and paid off by its age, so that as many as the period limit are in
+//! rotation.
 
 use super::filling;
 use crate::aim::{Aim, Manner, Scale};
-use crate::book::MOST_PERIODS;
 use crate::codec::{Entry, Field, OPEN, RECEIPT, SETTLE};
 use crate::demand3::Count;
 use crate::halves::Half;
+use crate::limits::{Limits, MOST_PERIODS};
 use crate::making::Making;
 use crate::period::Stage;
 use crate::random::Random;
@@ -15,7 +16,7 @@ use crate::watch_of_purses;
 use crate::watch_of_washups;
 use std::collections::BTreeMap;
 
-/// Ages of a period in hundredths of a month.
+/// Ages of a period in hundredths of a month, where the period limit is twelve.
 pub(super) const NOTICE_DUE: u64 = 300;
 const SETTLE_DUE: u64 = 400;
 /// The last arrears are paid right before the twelfth month after the opening.
@@ -38,6 +39,8 @@ const CALM: u64 = 3;
 /// What a feed is made by.
 #[derive(Clone, Copy, Debug)]
 pub struct Plan {
+    /// Those of the book.
+    pub limits: Limits,
     pub n: u8,
     pub entries: u64,
     pub months: u64,
@@ -48,6 +51,11 @@ impl Plan {
     pub(super) fn entries_of_a_month(&self) -> u64 {
         (self.entries / self.months.max(1)).max(1)
     }
+
+    /// An age where the period limit is twelve, as it is where that is the plan's.
+    pub(super) fn age(&self, of_twelve: u64) -> u64 {
+        of_twelve * self.limits.periods / MOST_PERIODS
+    }
 }
 
 /// What the feed has come to so far.
@@ -55,7 +63,7 @@ impl Plan {
 pub struct Reach {
     pub entries: u64,
     pub months_opened: u64,
-    pub most_periods: usize,
+    pub most_periods: u64,
     pub count: Count,
     pub purses: watch_of_purses::Watch,
     pub washups: watch_of_washups::Watch,
@@ -79,13 +87,13 @@ impl Rotation {
         let manner = Manner {
             scale: Scale::Few,
             wrong: 0,
-            periods: MOST_PERIODS,
+            periods: plan.limits.periods,
             amounts: 0,
             step: 3,
             purses: 1,
             washups: filling::WASHUPS,
         };
-        let aim = Aim::new(Random::new(seed), &Making::alone(plan.n.into()), manner);
+        let aim = Aim::new(Random::new(seed), &Making::within(plan.limits, plan.n.into()), manner);
         Rotation { plan, reach: Reach::default(), aim, opened_after: BTreeMap::new() }
     }
 
@@ -102,16 +110,16 @@ impl Rotation {
         entry.unwrap_or(Entry::open(0))
     }
 
-    /// Whether the entry before opened the twelfth period: with few participants it may leave soon.
+    /// Whether the entry before filled the book: with few participants a period may leave soon.
     fn is_just_full(&self) -> bool {
         let last = self.opened_after.values().max();
-        self.aim.book.periods.len() == MOST_PERIODS && last == Some(&self.reach.entries)
+        self.aim.book.is_full() && last == Some(&self.reach.entries)
     }
 
-    /// An entry that the book refuses. While twelve periods are in it, which is seldom with few
-    /// participants, it is often the opening of one more.
+    /// An entry that the book refuses. While the book is full, which is seldom with few participants,
+    /// it is often the opening of one more period.
     fn refused(&mut self) -> Option<Entry> {
-        if self.aim.book.periods.len() == MOST_PERIODS && self.aim.random.chance(1, 4) {
+        if self.aim.book.is_full() && self.aim.random.chance(1, 4) {
             return Some(self.aim.opening());
         }
         let n = self.aim.book.n;
@@ -130,17 +138,19 @@ impl Rotation {
 
     fn due_on(&mut self, number: u32) -> Option<Entry> {
         let age = self.age(number);
+        let plan = self.plan;
+        let due = |of_twelve| plan.age(of_twelve);
         match self.aim.book.periods[&number].stage {
-            Stage::BeforeNotice if age >= NOTICE_DUE => Some(self.aim.close(number)),
-            Stage::Noticed(_) if age >= SETTLE_DUE => Some(self.settling(number)),
-            Stage::Settled { .. } if age >= LEAVING_DUE => self.receipt_in_full(number),
+            Stage::BeforeNotice if age >= due(NOTICE_DUE) => Some(self.aim.close(number)),
+            Stage::Noticed(_) if age >= due(SETTLE_DUE) => Some(self.settling(number)),
+            Stage::Settled { .. } if age >= due(LEAVING_DUE) => self.receipt_in_full(number),
             _ => None,
         }
     }
 
     fn opening_due(&mut self) -> Option<Entry> {
         let due = self.reach.entries / self.plan.entries_of_a_month() + 1;
-        let room = self.aim.book.periods.len() < MOST_PERIODS;
+        let room = !self.aim.book.is_full();
         let wanted = self.reach.months_opened < due.min(self.plan.months);
         (room && wanted).then(|| self.aim.opening())
     }
@@ -257,7 +267,7 @@ impl Rotation {
         match entry.kind {
             OPEN => {
                 reach.months_opened += 1;
-                reach.most_periods = reach.most_periods.max(self.aim.book.periods.len());
+                reach.most_periods = reach.most_periods.max(self.aim.book.periods.len() as u64);
                 self.opened_after.insert(entry.period, reach.entries);
             }
             SETTLE => {

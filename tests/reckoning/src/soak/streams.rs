@@ -184,7 +184,8 @@ pub fn hold(
         let comparison = scope.spawn(move || compare(reckoned, output, watch));
         let mut feed = Feed::new(rotation, to_program);
         let mut out = BufWriter::with_capacity(BLOCK, Reckoned(to_comparison));
-        let listed = listing::list(&mut feed, &mut out).and_then(|()| out.flush());
+        let limits = feed.rotation.plan.limits;
+        let listed = listing::list(limits, &mut feed, &mut out).and_then(|()| out.flush());
         drop(out);
         let reach = feed.end();
         let compared = comparison.join().expect("the comparison ends");

@@ -5,11 +5,13 @@ use super::streams::{hold, Compared, Watch};
 use super::{covered, NOT_REQUIRED, SEED, WASHUPS_NOT_REQUIRED};
 use crate::counts_of_washups;
 use crate::draws::Sight;
+use crate::limits::{DEMONSTRATION, MARKET};
 use crate::listing;
 use std::io::{self, BufWriter, Write};
 use std::thread;
 
-const PLAN: Plan = Plan { n: 5, entries: 100_000, months: 400 };
+const PLAN: Plan = Plan { limits: MARKET, n: 5, entries: 100_000, months: 400 };
+const DEMONSTRATED: Plan = Plan { limits: DEMONSTRATION, ..PLAN };
 
 struct Unwatched;
 
@@ -45,24 +47,45 @@ impl<W: Write> Write for Damaging<W> {
 }
 
 fn held(changed: Option<u64>, cut: Option<u64>, more: &[u8]) -> (Reach, Result<Compared, String>) {
+    held_by(PLAN, changed, cut, more)
+}
+
+fn held_by(
+    plan: Plan,
+    changed: Option<u64>,
+    cut: Option<u64>,
+    more: &[u8],
+) -> (Reach, Result<Compared, String>) {
     thread::scope(|scope| {
         let (feed, input) = io::pipe().unwrap();
         let (output, out) = io::pipe().unwrap();
         scope.spawn(move || {
             let mut out = BufWriter::new(Damaging { out, written: 0, changed, cut });
             // It fails where the comparison has ended before it.
-            listing::list(feed, &mut out).and_then(|()| out.write_all(more)).ok();
+            listing::list(plan.limits, feed, &mut out).and_then(|()| out.write_all(more)).ok();
         });
-        hold(Rotation::new(PLAN, SEED), input, output, Unwatched)
+        hold(Rotation::new(plan, SEED), input, output, Unwatched)
     })
 }
 
 #[test]
-fn a_right_listing_stands() {
-    let (reach, compared) = held(None, None, b"");
-    let compared = compared.unwrap();
-    assert_eq!(compared.entries(), PLAN.entries);
-    assert!(compared.payout_lines > 0 && covered(&PLAN, &reach));
+fn a_right_listing_stands_in_each_book() {
+    for plan in [PLAN, DEMONSTRATED] {
+        let (reach, compared) = held_by(plan, None, None, b"");
+        let compared = compared.unwrap();
+        assert_eq!(compared.entries(), plan.entries);
+        assert!(compared.payout_lines > 0 && covered(&plan, &reach), "{reach:?}");
+    }
+}
+
+#[test]
+fn a_feed_that_never_fills_the_book_covers_too_little() {
+    for plan in [PLAN, DEMONSTRATED] {
+        let mut rotation = Rotation::new(plan, SEED);
+        rotation.by_ref().for_each(drop);
+        rotation.reach.most_periods -= 1;
+        assert!(!covered(&plan, &rotation.reach));
+    }
 }
 
 #[test]
@@ -88,7 +111,7 @@ fn a_listing_that_ends_early_or_late_is_told() {
 
 #[test]
 fn a_feed_without_refusals_or_late_money_covers_too_little() {
-    let short = Plan { n: 5, entries: 300, months: 2 };
+    let short = Plan { limits: MARKET, n: 5, entries: 300, months: 2 };
     let mut rotation = Rotation::new(short, SEED);
     assert_eq!(rotation.by_ref().count(), 300);
     assert!(!covered(&short, &rotation.reach));

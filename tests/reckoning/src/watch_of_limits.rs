@@ -1,0 +1,163 @@
+//! Watches how books are made, and the openings that come to them, for what is to be seen of limits
+//! (02, f).
+
+use crate::book::Book;
+use crate::codec::{Entry, OPEN, RECEIPT, SETTLE};
+use crate::counts_of_limits::{Limited, Opening, Sight};
+use crate::limits::{Limits, MARKET, MOST_PARTICIPANTS, MOST_PERIODS};
+use crate::making::Making;
+use crate::period::Stage;
+use crate::refusals::*;
+use std::collections::BTreeSet;
+
+/// The calls that make a book.
+#[derive(Clone, Copy, Debug, PartialEq, Eq)]
+pub enum Call {
+    B,
+    G,
+    L,
+}
+
+/// What an entry finds in the book.
+#[derive(Clone, Debug)]
+struct Found {
+    entry: Entry,
+    full: bool,
+    periods: u64,
+    /// Whether it comes to a settled period.
+    settled: bool,
+}
+
+/// Watches the books of a trial or the one of a listing.
+#[derive(Clone, Debug, Default)]
+pub struct Watch {
+    pub counts: Limited,
+    found: Option<Found>,
+    /// The call that made the book, and the period limit of the book before.
+    made: Option<(Call, u64)>,
+    /// Whether the book was refused for its limits.
+    refused: bool,
+    /// The periods that 7 refused in this book.
+    refused_periods: BTreeSet<u32>,
+}
+
+/// The one reason for which a making is refused with 4, if there is just one.
+fn reason(making: &Making) -> Option<Sight> {
+    let (n, Limits { participants, periods }) = (making.n, making.limits);
+    let stands = (1..=MOST_PARTICIPANTS).contains(&participants);
+    let reasons = [
+        (n == 0, Sight::NOfZero),
+        (stands && n > participants && n <= MOST_PARTICIPANTS, Sight::NAboveLimit),
+        (n > MOST_PARTICIPANTS, Sight::NAboveMarket),
+        (participants == 0, Sight::NoParticipants),
+        (participants > MOST_PARTICIPANTS, Sight::ParticipantsAbove),
+        (periods == 0, Sight::NoPeriods),
+        (periods > MOST_PERIODS, Sight::PeriodsAbove),
+    ];
+    let held: Vec<Sight> =
+        reasons.into_iter().filter(|(holds, _)| *holds).map(|(_, s)| s).collect();
+    (held.len() == 1).then(|| held[0])
+}
+
+/// Whether a group number or a reserve is outside its values, whatever n and the limits are.
+fn has_3(making: &Making) -> bool {
+    let n = making.n.clamp(1, MOST_PARTICIPANTS);
+    let refusal = Making { n, limits: MARKET, ..making.clone() }.refusal();
+    refusal == Some(FIELD_OUTSIDE)
+}
+
+impl Watch {
+    /// A book took the place of another.
+    pub fn made(&mut self, call: Call, before: &Book, making: &Making, answer: u8) {
+        let limits = making.limits;
+        self.made = Some((call, before.limits().periods));
+        self.refused = answer == N_REFUSED && !limits.stand();
+        self.refused_periods.clear();
+        if call != Call::L {
+            return;
+        }
+        match answer {
+            N_REFUSED => {
+                let sight = reason(making);
+                let sight = sight.map(|sight| if has_3(making) { sight.with_3() } else { sight });
+                sight.into_iter().for_each(|sight| self.counts.see(sight));
+            }
+            ACCEPTED => self.accepted(making.n, limits),
+            _ => self.counts.see_if(limits != MARKET, Sight::GroupOrReserve),
+        }
+    }
+
+    fn accepted(&mut self, n: u64, Limits { participants, periods }: Limits) {
+        let below = participants < MOST_PARTICIPANTS;
+        self.counts.see_if(below && n == participants, Sight::NAtLimit);
+        self.counts.see_if(below && n + 1 == participants, Sight::NBelowLimit);
+        self.counts.see_if(participants == 1, Sight::OneParticipant);
+        self.counts.see_if(participants == MOST_PARTICIPANTS, Sight::MostParticipants);
+        self.counts.see_if(periods == 1, Sight::OnePeriod);
+        self.counts.see_if(periods == MOST_PERIODS, Sight::MostPeriods);
+    }
+
+    /// An entry is about to be applied.
+    pub fn before(&mut self, book: &Book, entry: &Entry) {
+        let (full, periods) = (book.is_full(), book.periods.len() as u64);
+        let period = book.periods.get(&entry.period);
+        let settled = period.is_some_and(|period| matches!(period.stage, Stage::Settled { .. }));
+        self.found = Some(Found { entry: *entry, full, periods, settled });
+    }
+
+    /// It was answered with a number, and left this book.
+    pub fn after(&mut self, book: &Book, answer: u8) {
+        let Some(found) = self.found.take() else {
+            return;
+        };
+        self.counts.see_if(self.refused && answer == N_REFUSED, Sight::ToRefused);
+        match (found.entry.kind, answer) {
+            (OPEN, _) => self.opening(book, &found, answer),
+            (SETTLE, ACCEPTED) if book.limits() != MARKET => {
+                let stays = book.periods.contains_key(&found.entry.period);
+                self.counts.see(Sight::Settled);
+                self.counts.see_if(stays, Sight::WithArrears);
+                self.counts.see_if(found.full, Sight::WhileFull);
+            }
+            (RECEIPT, ACCEPTED) if book.limits() != MARKET => {
+                self.counts.see_if(found.settled, Sight::Late);
+            }
+            _ => (),
+        }
+    }
+
+    fn opening(&mut self, book: &Book, found: &Found, answer: u8) {
+        let (limit, period) = (book.limits().periods, found.entry.period);
+        let openings = &mut self.counts.openings;
+        match answer {
+            ACCEPTED => {
+                if self.refused_periods.remove(&period) {
+                    openings.see(Opening::Again, limit);
+                }
+                if found.periods + 1 == limit {
+                    openings.see(Opening::Reached, limit);
+                }
+                self.past_limit_before(found.periods);
+            }
+            PERIODS_AT_LIMIT => {
+                openings.see(Opening::Refused, limit);
+                self.refused_periods.insert(period);
+            }
+            NOT_ABOVE_HIGHEST if found.full => openings.see(Opening::NotAbove, limit),
+            _ => (),
+        }
+    }
+
+    /// A period was opened beside so many others.
+    fn past_limit_before(&mut self, others: u64) {
+        let sight = match self.made {
+            Some((call, before)) if others >= before => match call {
+                Call::B => Sight::PastLimitBeforeInB,
+                Call::G => Sight::PastLimitBeforeInG,
+                Call::L => Sight::PastLimitBeforeInL,
+            },
+            _ => return,
+        };
+        self.counts.see(sight);
+    }
+}
