@@ -1,40 +1,39 @@
-//! Cases reckoned by hand: entries of a book of three, each with its answer, its payouts and the
-//! cents held after it. Each case is a trial and a feed.
+//! Cases reckoned by hand: entries of a book, mostly of three participants, each with its answer, its
+//! payouts and the cents held after it. Each case is a trial and a feed.
 
 use crate::calls;
 use crate::codec::Entry;
+use crate::limits::Limits;
+use crate::making::Making;
 use crate::refusals::ACCEPTED;
 
-pub const N: u8 = 3;
-/// Nothing is paid.
-const NOTHING: [u64; N as usize] = [0; N as usize];
-
-/// An entry and what it must come to.
+/// An entry and what it must come to in a book of N participants.
 #[derive(Clone, Copy, Debug)]
-pub struct Step {
+pub struct Step<const N: usize = 3> {
     pub entry: Entry,
     pub answer: u8,
-    pub payouts: [u64; N as usize],
+    pub payouts: [u64; N],
     pub held: u128,
 }
 
-pub struct Case {
+#[derive(Clone, Debug)]
+pub struct Case<const N: usize = 3> {
     pub name: &'static str,
-    pub steps: Vec<Step>,
+    pub steps: Vec<Step<N>>,
 }
 
 /// An accepted entry that pays nothing.
-pub fn stands(entry: Entry, held: u128) -> Step {
-    Step { entry, answer: ACCEPTED, payouts: NOTHING, held }
+pub fn stands<const N: usize>(entry: Entry, held: u128) -> Step<N> {
+    Step { entry, answer: ACCEPTED, payouts: [0; N], held }
 }
 
 /// An accepted entry that pays.
-pub fn pays(entry: Entry, payouts: [u64; N as usize], held: u128) -> Step {
+pub fn pays<const N: usize>(entry: Entry, payouts: [u64; N], held: u128) -> Step<N> {
     Step { entry, answer: ACCEPTED, payouts, held }
 }
 
-pub fn refused(entry: Entry, answer: u8, held: u128) -> Step {
-    Step { entry, answer, payouts: NOTHING, held }
+pub fn refused<const N: usize>(entry: Entry, answer: u8, held: u128) -> Step<N> {
+    Step { entry, answer, payouts: [0; N], held }
 }
 
 /// Month A of 01 to its notice, while so many cents are held: 600 of payer 0 and 334 of payer 2 are
@@ -43,15 +42,24 @@ pub fn month_a(period: u32, held: u128) -> Vec<Step> {
     calls::month_a_to_notice(period).into_iter().map(|entry| stands(entry, held)).collect()
 }
 
-impl Case {
+impl<const N: usize> Case<N> {
     pub fn trial(&self) -> Vec<u8> {
-        let applied = self.steps.iter().flat_map(|step| calls::apply(&step.entry, N));
-        calls::book(N.into()).into_iter().chain(applied).collect()
+        self.trial_in(calls::book(N as u64))
+    }
+
+    /// The trial in a book of some limits.
+    pub fn trial_within(&self, limits: Limits) -> Vec<u8> {
+        self.trial_in(calls::book_of_limits(&Making::within(limits, N as u64)))
+    }
+
+    fn trial_in(&self, book: Vec<u8>) -> Vec<u8> {
+        let applied = self.steps.iter().flat_map(|step| calls::apply(&step.entry, N as u8));
+        book.into_iter().chain(applied).collect()
     }
 
     pub fn feed(&self) -> Vec<u8> {
         let entries = self.steps.iter().flat_map(|step| step.entry.bytes());
-        [N].into_iter().chain(entries).collect()
+        [N as u8].into_iter().chain(entries).collect()
     }
 }
 
@@ -59,28 +67,35 @@ impl Case {
 pub mod tests {
     use super::*;
     use crate::book::Book;
-    use crate::judge::judge_listing;
-    use crate::listing::listing;
+    use crate::judge::judge_within;
+    use crate::limits::MARKET;
+    use crate::listing::listing_within;
 
     /// Holds the book to each step of a case, and demand 3 to its listing.
-    pub fn hold(case: &Case) {
-        let mut book = Book::alone(N.into());
+    pub fn hold<const N: usize>(case: &Case<N>) {
+        hold_within(MARKET, case);
+    }
+
+    /// The same in a book of some limits.
+    pub fn hold_within<const N: usize>(limits: Limits, case: &Case<N>) {
+        let mut book = Book::make(&Making::within(limits, N as u64)).0;
         for (place, step) in case.steps.iter().enumerate() {
-            let mut words = [9; N as usize];
+            let mut words = [9; N];
             let answer = book.apply(&step.entry, &mut words).number;
-            let payouts = if step.answer == ACCEPTED { step.payouts } else { [9; N as usize] };
+            let payouts = if step.answer == ACCEPTED { step.payouts } else { [9; N] };
             let found = (answer, words, book.held());
             let name = format!("{}, step {}: {:?}", case.name, place + 1, step.entry);
             assert_eq!(found, (step.answer, payouts, step.held), "{name}");
         }
         let feed = case.feed();
-        assert!(judge_listing(&feed, &listing(&feed)).is_ok(), "{}", case.name);
+        let judged = judge_within(limits, &feed, &listing_within(limits, &feed));
+        assert!(judged.is_ok(), "{}", case.name);
     }
 
     #[test]
     #[should_panic(expected = "a cent more, step 2")]
     fn a_step_that_is_not_as_reckoned_is_told() {
         let steps = vec![stands(Entry::purse(0, 300), 300), stands(Entry::purse(0, 1), 302)];
-        hold(&Case { name: "a cent more", steps });
+        hold::<3>(&Case { name: "a cent more", steps });
     }
 }

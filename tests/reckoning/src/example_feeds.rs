@@ -2,6 +2,7 @@
 
 use crate::by_hand::{month_a, pays, refused, stands, Case};
 use crate::codec::{Entry, MOST_CENTS};
+use crate::example_feeds_of_limits::{class, class_limits, class_nine};
 use crate::feeds;
 use crate::refusals::{EARLIER_PERIOD_OUTSIDE, PURSE_PASSES_BOUND};
 
@@ -52,12 +53,18 @@ pub fn washup() -> Case {
     Case { name: "the example feed", steps }
 }
 
+/// The name of each example, as a use of the program and, with `.feed`, as a file.
+pub const NAMES: [&str; 6] = ["month-a", "purse", "washup", "class", "class-limits", "class-nine"];
+
 /// The bytes of an example; nothing for a name that there is not.
 pub fn example(name: &str) -> Option<Vec<u8>> {
     match name {
         "month-a" => Some(feeds::month_a()),
         "purse" => Some(purse().feed()),
         "washup" => Some(washup().feed()),
+        "class" => Some(class().feed()),
+        "class-limits" => Some(class_limits().feed()),
+        "class-nine" => Some(class_nine().feed()),
         _ => None,
     }
 }
@@ -67,15 +74,17 @@ mod tests {
     use super::*;
     use crate::by_hand::tests::hold;
     use crate::listing::listing;
+    use std::fs;
+    use std::path::Path;
 
     #[test]
     fn the_files_are_these_examples() {
-        let month_a = include_bytes!("../../../feeds/month-a.feed");
-        let purse = include_bytes!("../../../feeds/purse.feed");
-        assert_eq!(example("month-a").unwrap(), month_a);
-        let washup = include_bytes!("../../../feeds/washup.feed");
-        assert_eq!(example("purse").unwrap(), purse);
-        assert_eq!(example("washup").unwrap(), washup);
+        let folder = Path::new(env!("CARGO_MANIFEST_DIR")).join("../../feeds");
+        for name in NAMES {
+            let file = fs::read(folder.join(format!("{name}.feed"))).expect("a file of that name");
+            assert_eq!(example(name), Some(file), "{name}");
+        }
+        assert_eq!(fs::read_dir(folder).unwrap().count(), NAMES.len());
         assert_eq!(example("month-b"), None);
     }
 

@@ -21,6 +21,7 @@ pub mod draws;
 mod early_money;
 pub mod energies;
 pub mod example_feeds;
+pub mod example_feeds_of_limits;
 pub mod feeds;
 pub mod groupings;
 pub mod halves;

@@ -13,11 +13,11 @@ const USES: &str = "uses:
   reckoning demonstration < FEED
   reckoning trial < CALLS
   reckoning feed SEED KIND > FEED
-  reckoning example month-a|purse|washup > FEED
+  reckoning example NAME > FEED
   reckoning pairs
   reckoning soak --listing|--demonstration PATH --n N --entries COUNT --months COUNT
   reckoning malformed --listing PATH --feeds COUNT
-kinds of feed:";
+names of examples and kinds of feed:";
 
 fn status(right: bool) -> ExitCode {
     if right {
@@ -29,7 +29,7 @@ fn status(right: bool) -> ExitCode {
 
 fn print_uses() -> ExitCode {
     let kinds: Vec<&str> = feeds::KINDS.iter().map(|kind| kind.name).collect();
-    eprintln!("{USES} {}", kinds.join(" "));
+    eprintln!("{USES}\n  {}\n  {}", example_feeds::NAMES.join(" "), kinds.join(" "));
     ExitCode::FAILURE
 }
 
