@@ -20,9 +20,19 @@ impl Maker {
         Maker { aim: Aim::new(random, &Making::alone(0), manner), bytes: Vec::new() }
     }
 
-    /// Makes a book, which later calls go to.
+    /// Makes a market book, which later calls go to.
     pub fn make(&mut self, making: &Making) {
-        self.bytes.extend(calls::book_in_groups(making));
+        self.make_by(calls::book_in_groups(making), making);
+    }
+
+    /// Makes a book of the making's limits.
+    pub fn make_limited(&mut self, making: &Making) {
+        self.make_by(calls::book_of_limits(making), making);
+    }
+
+    /// Makes a book by a call.
+    pub fn make_by(&mut self, call: Vec<u8>, making: &Making) {
+        self.bytes.extend(call);
         let mut random = self.aim.random.clone();
         let manner = any_manner(&mut random, making.n);
         self.aim = Aim::new(random, making, manner);

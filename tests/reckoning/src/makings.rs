@@ -4,6 +4,7 @@
 use crate::calls;
 use crate::codec::{Entry, MOST_CENTS};
 use crate::making::{Making, GROUPS, LAST_GROUP, MOST_RESERVE};
+use crate::makings_of_limits;
 use crate::pairs::Pair;
 use crate::random::Random;
 use crate::refusals::{ACCEPTED, FIELD_OUTSIDE, N_REFUSED};
@@ -115,7 +116,7 @@ pub fn cases() -> Vec<Case> {
 
 /// Entries that are wrong in every way that a book without periods can tell, with their payout
 /// words, and month A.
-fn tries() -> Vec<u8> {
+pub(crate) fn tries() -> Vec<u8> {
     let wrong = [
         (Entry::open(1), 0),
         (Entry::open(0), 64),
@@ -161,6 +162,7 @@ pub fn refused_books() -> Vec<Vec<u8>> {
     for cases in [with_refused_n(), with_group_outside(), with_reserve_outside()] {
         books.extend(cases.last().map(|case| calls::book_in_groups(&case.making)));
     }
+    books.extend(makings_of_limits::refused_books());
     books
 }
 
@@ -178,7 +180,7 @@ pub fn pairs_of_making() -> Vec<Pair> {
 }
 
 /// Puts a group number outside its values below n.
-fn spoil_group(random: &mut Random, making: &mut Making) {
+pub(crate) fn spoil_group(random: &mut Random, making: &mut Making) {
     let last = making.n.clamp(1, GROUPS as u64) - 1;
     let any = random.between(0, last);
     let place = random.pick(&[0, any, last]) as usize;
@@ -187,7 +189,7 @@ fn spoil_group(random: &mut Random, making: &mut Making) {
 }
 
 /// Puts a reserve above its bound: of a group with members, of any, or of group 63.
-fn spoil_reserve(random: &mut Random, making: &mut Making) {
+pub(crate) fn spoil_reserve(random: &mut Random, making: &mut Making) {
     let used = usize::from(making.groups[0]) % GROUPS;
     let any = random.below(GROUPS as u64) as usize;
     let above = random.any().max(MOST_RESERVE + 1);

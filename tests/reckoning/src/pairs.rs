@@ -11,12 +11,13 @@
 //!   no kind is tested for both; 3 does not hold for kinds 1, 4 and 6.
 //! - 8 with 10 and 11: a period not in the book has no totals.
 //!
-//! Those of reading and writing, of purse entries and of washups have files of their own.
+//! Those of reading and writing, of purse entries, of washups and of limits have files of their own.
 
 use crate::calls;
 use crate::codec::{Entry, MOST_CENTS};
 use crate::makings;
 use crate::pairs_of_bytes;
+use crate::pairs_of_limits;
 use crate::pairs_of_purses;
 use crate::pairs_of_washups;
 
@@ -261,5 +262,6 @@ pub fn pairs() -> Vec<Pair> {
     pairs.extend(pairs_of_purses::pairs(&scene));
     pairs.extend(pairs_of_washups::pairs(&scene));
     pairs.extend(makings::pairs_of_making());
+    pairs.extend(pairs_of_limits::pairs());
     pairs
 }

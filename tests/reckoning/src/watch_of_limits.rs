@@ -161,3 +161,93 @@ impl Watch {
         self.counts.see(sight);
     }
 }
+
+#[cfg(test)]
+mod tests {
+    use super::*;
+    use crate::feeds;
+    use crate::limits::DEMONSTRATION;
+    use crate::listing;
+    use crate::trial;
+    use crate::trials;
+    use crate::trials_of_limits::{self, every_trial, TRIALS_OF_LIMITS};
+
+    fn limited(trials: impl Iterator<Item = Vec<u8>>) -> Limited {
+        let mut counts = Limited::default();
+        trials.for_each(|calls| counts.add(&trial::lines_by(Book::make, &calls).1.limits));
+        counts
+    }
+
+    #[test]
+    fn the_trials_cover_all_and_a_part_of_them_is_too_little() {
+        let all = limited(every_trial().map(|(_, calls)| calls));
+        assert!(all.covered(), "{all:?}");
+        for part in ["making", "openings"] {
+            let of_part = every_trial().filter(|(name, _)| name.contains(part));
+            assert!(!limited(of_part.map(|(_, calls)| calls)).covered(), "{part}");
+        }
+    }
+
+    /// Without the makings at each bound, and without the openings at each period limit.
+    #[test]
+    fn months_from_seeds_see_every_reason_for_4_and_books_that_follow() {
+        let seen = limited((0..TRIALS_OF_LIMITS).map(trials_of_limits::trial_of_limits));
+        assert!(seen.counts.iter().all(|&count| count > 0), "{seen:?}");
+    }
+
+    /// In market books nothing is seen of other limits, and openings at twelve alone.
+    #[test]
+    fn market_books_show_openings_at_their_limit_alone() {
+        let seen = limited((0..40).map(trials::trial));
+        let mut expected = Limited::default();
+        for (to, from) in expected.openings.by_limit.iter_mut().zip(seen.openings.by_limit) {
+            to[11] = from[11];
+        }
+        assert_eq!(seen, expected);
+        assert!(seen.openings.by_limit[Opening::Reached as usize][11] > 0);
+    }
+
+    #[test]
+    fn feeds_from_seeds_see_each_opening_at_the_limit_of_their_book() {
+        for limits in [MARKET, DEMONSTRATION] {
+            let mut counts = Limited::default();
+            for feed in (0..20).filter_map(|seed| feeds::feed_within(limits, seed, "full")) {
+                counts.openings.add(&listing::lines_within(limits, Book::make, &feed).1.openings);
+            }
+            let covered: Vec<u64> =
+                (1..=MOST_PERIODS).filter(|&limit| counts.openings.covered_at(limit)).collect();
+            assert_eq!(covered, [limits.periods], "{counts:?}");
+        }
+    }
+
+    /// What is seen of one making by `L`.
+    fn seen_of(n: u64, participants: u64, periods: u64, group: u8) -> Vec<Sight> {
+        let mut making = Making::within(Limits { participants, periods }, n);
+        making.groups[0] = group;
+        let mut watch = Watch::default();
+        let answer = Book::make(&making).1;
+        watch.made(Call::L, &Book::alone(0), &making, answer);
+        Sight::ALL.into_iter().filter(|&sight| watch.counts.of(sight) > 0).collect()
+    }
+
+    #[test]
+    fn a_making_is_seen_by_the_one_reason_that_it_has() {
+        assert_eq!(seen_of(0, 8, 3, 0), [Sight::NOfZero]);
+        assert_eq!(seen_of(9, 8, 3, 0), [Sight::NAboveLimit]);
+        assert_eq!(seen_of(65, 8, 3, 0), [Sight::NAboveMarket]);
+        assert_eq!(seen_of(3, 0, 3, 0), [Sight::NoParticipants]);
+        assert_eq!(seen_of(3, 65, 3, 0), [Sight::ParticipantsAbove]);
+        assert_eq!(seen_of(3, 8, 0, 0), [Sight::NoPeriods]);
+        assert_eq!(seen_of(3, 8, 13, 0), [Sight::PeriodsAbove]);
+        assert_eq!(seen_of(9, 8, 3, 64), [Sight::NAboveLimitWith3]);
+        assert_eq!(seen_of(3, 8, 13, 64), [Sight::PeriodsAboveWith3]);
+        assert_eq!(seen_of(9, 8, 13, 0), []);
+        assert_eq!(seen_of(0, 0, 3, 0), []);
+        assert_eq!(seen_of(3, 8, 3, 64), [Sight::GroupOrReserve]);
+        assert_eq!(seen_of(8, 8, 3, 0), [Sight::NAtLimit]);
+        assert_eq!(seen_of(7, 8, 3, 0), [Sight::NBelowLimit]);
+        assert_eq!(seen_of(1, 1, 1, 0), [Sight::NAtLimit, Sight::OneParticipant, Sight::OnePeriod]);
+        assert_eq!(seen_of(64, 64, 12, 0), [Sight::MostParticipants, Sight::MostPeriods]);
+        assert_eq!(seen_of(3, 8, 3, 0), []);
+    }
+}
