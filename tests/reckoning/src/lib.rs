@@ -15,6 +15,7 @@ pub mod cases_of_washups;
 pub mod codec;
 pub mod compare;
 pub mod counts_of_limits;
+pub mod counts_of_lists;
 pub mod counts_of_washups;
 pub mod damage;
 pub mod demand3;
@@ -54,9 +55,11 @@ pub mod refusals;
 pub mod retention;
 mod revisions;
 pub mod rounds;
+pub mod same_payouts;
 pub mod selftest;
 mod sights_of_washups;
 pub mod soak;
+pub mod totals;
 pub mod trial;
 pub mod trials;
 pub mod trials_of_groups;
@@ -72,6 +75,7 @@ pub mod versions_of_purses;
 pub mod versions_of_washups;
 pub mod washup;
 pub mod watch_of_limits;
+mod watch_of_lists;
 pub mod watch_of_purses;
 pub mod watch_of_washups;
 pub mod ways;
@@ -93,5 +97,7 @@ mod examples_of_washups;
 mod tests_of_book;
 #[cfg(test)]
 mod tests_of_codec;
+#[cfg(test)]
+mod tests_of_compare;
 #[cfg(test)]
 mod tests_of_pairs;

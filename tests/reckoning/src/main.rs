@@ -1,5 +1,6 @@
 //! The reckoning as a program; `reckoning` alone prints its uses.
 
+use reckoning::compare::Programs;
 use reckoning::limits::{Limits, DEMONSTRATION, MARKET};
 use reckoning::soak::Plan;
 use reckoning::{compare, example_feeds, feeds, listing, malformed, pairs, selftest, soak, trial};
@@ -7,7 +8,7 @@ use std::io::{self, BufReader, BufWriter, Write};
 use std::process::ExitCode;
 
 const USES: &str = "uses:
-  reckoning compare --listing PATH --trial PATH
+  reckoning compare --listing PATH --trial PATH --demonstration PATH
   reckoning selftest
   reckoning listing < FEED
   reckoning demonstration < FEED
@@ -16,7 +17,7 @@ const USES: &str = "uses:
   reckoning example NAME > FEED
   reckoning pairs
   reckoning soak --listing|--demonstration PATH --n N --entries COUNT --months COUNT
-  reckoning malformed --listing PATH --feeds COUNT
+  reckoning malformed --listing PATH --demonstration PATH --feeds COUNT
 names of examples and kinds of feed:";
 
 fn status(right: bool) -> ExitCode {
@@ -88,8 +89,8 @@ fn main() -> ExitCode {
     let words: Vec<String> = std::env::args().skip(1).collect();
     let words: Vec<&str> = words.iter().map(String::as_str).collect();
     match words[..] {
-        ["compare", "--listing", listing, "--trial", trial] => {
-            status(compare::compare(listing, trial))
+        ["compare", "--listing", listing, "--trial", trial, "--demonstration", demonstration] => {
+            status(compare::compare(&Programs { listing, trial, demonstration }))
         }
         ["soak", book, path, "--n", n, "--entries", entries, "--months", months] => {
             match limits_of(book) {
@@ -97,10 +98,12 @@ fn main() -> ExitCode {
                 None => print_uses(),
             }
         }
-        ["malformed", "--listing", listing, "--feeds", feeds] => match feeds.parse() {
-            Ok(feeds) => status(malformed::malformed(listing, feeds)),
-            Err(_) => print_uses(),
-        },
+        ["malformed", "--listing", listing, "--demonstration", demonstration, "--feeds", feeds] => {
+            match feeds.parse() {
+                Ok(feeds) => status(malformed::malformed(listing, demonstration, feeds)),
+                Err(_) => print_uses(),
+            }
+        }
         ["selftest"] => status(selftest::selftest()),
         ["listing"] => print(|out| listing::list(MARKET, io::stdin(), out)),
         ["demonstration"] => print(|out| listing::list(DEMONSTRATION, io::stdin(), out)),

@@ -2,12 +2,12 @@
 
 use crate::book::{Answer, Book};
 use crate::codec::{Entry, NOTICE, RECEIPT, SETTLE};
-use crate::compare::print_answers;
 use crate::kinds::Kinds;
 use crate::making::Making;
 use crate::month;
 use crate::period::{Period, Stage};
 use crate::refusals::*;
+use crate::totals::print_answers;
 use std::collections::BTreeMap;
 
 /// What was seen in books that were made with groups and reserves.

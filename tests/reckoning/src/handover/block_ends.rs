@@ -4,6 +4,7 @@ use super::inputs::{file, run_on_packets};
 use super::{entry_ends, start_of_long, Run, Runs, BLOCK};
 use crate::codec::LONGEST_ENTRY;
 use crate::judge::{first_difference, judge_listing};
+use crate::limits::MARKET;
 use crate::listing::listing;
 use std::collections::BTreeSet;
 use std::iter;
@@ -46,7 +47,7 @@ fn judge_each<T: Send>(places: &[usize], judge: impl Fn(usize) -> T + Sync) -> V
 impl Cuts {
     /// Cuts after every byte about every block's end.
     pub fn every() -> Cuts {
-        let feed = start_of_long(SEED, MOST_BYTES);
+        let feed = start_of_long(MARKET, SEED, MOST_BYTES);
         let entry_ends = entry_ends(&feed);
         let mut cuts = Cuts { feed, entry_ends, block_ends: Vec::new(), places: Vec::new() };
         cuts.block_ends = cuts.read_ends(None);

@@ -5,7 +5,8 @@ use super::inputs::{file, packet_sockets, write_packets};
 use super::{entry_ends, Run, Runs, BLOCK};
 use crate::feeds;
 use crate::judge::first_difference;
-use crate::listing::listing;
+use crate::limits::Limits;
+use crate::listing::listing_within;
 use crate::program::{shown, Printed};
 use std::fs::File;
 use std::io::{self, Read, Seek};
@@ -23,9 +24,9 @@ fn judge_errors(wanted: &[u8], printed: &Printed) -> Result<(), String> {
 }
 
 /// Whether a program printed the whole entries that it was given, and that it could not read on.
-fn judge_input(feed: &[u8], printed: &Printed) -> Result<(), String> {
+fn judge_input(limits: Limits, feed: &[u8], printed: &Printed) -> Result<(), String> {
     let whole = entry_ends(feed).pop().map_or(0, |end| end.min(feed.len()));
-    match first_difference(&listing(&feed[..whole]), &printed.output) {
+    match first_difference(&listing_within(limits, &feed[..whole]), &printed.output) {
         Some(difference) => Err(difference),
         None => judge_errors(NOT_READ, printed),
     }
@@ -51,12 +52,12 @@ fn failing_after(feed: &[u8], ends: &[usize]) -> io::Result<(UnixStream, OwnedFd
     Ok((ours, input.into()))
 }
 
-fn inputs(runs: &mut Runs, run: &impl Run) -> io::Result<()> {
+fn inputs(limits: Limits, runs: &mut Runs, run: &impl Run) -> io::Result<()> {
     for (name, input) in unreadable()? {
-        let judged = run(input, None).and_then(|printed| judge_input(&[], &printed));
+        let judged = run(input, None).and_then(|printed| judge_input(limits, &[], &printed));
         runs.take(&format!("the input is {name}"), judged);
     }
-    let feed = feeds::feed(1, "wide").expect("a kind that exists");
+    let feed = feeds::feed_within(limits, 1, "wide").expect("a kind that exists");
     let entries = entry_ends(&feed);
     let whole = entries[500];
     // Nothing, n alone, an entry's part, whole entries, and parts over several reads.
@@ -72,7 +73,7 @@ fn inputs(runs: &mut Runs, run: &impl Run) -> io::Result<()> {
     for ends in every {
         let (ours, input) = failing_after(&feed, ends)?;
         let feed = &feed[..ends.last().copied().unwrap_or(0)];
-        let judged = run(input, None).and_then(|printed| judge_input(feed, &printed));
+        let judged = run(input, None).and_then(|printed| judge_input(limits, feed, &printed));
         drop(ours);
         runs.take(&format!("the input fails after bytes {ends:?}"), judged);
     }
@@ -96,7 +97,7 @@ fn judge_full(feed: &[u8], run: &impl Run) -> Result<(), String> {
 }
 
 /// How a program ends whose output takes some bytes, and then no more.
-fn judge_filled(feed: &[u8], run: &impl Run) -> Result<(), String> {
+fn judge_filled(limits: Limits, feed: &[u8], run: &impl Run) -> Result<(), String> {
     let failed = |error: io::Error| error.to_string();
     let mut input = file(feed).map_err(failed)?;
     let copy = input.try_clone().map_err(failed)?;
@@ -107,7 +108,7 @@ fn judge_filled(feed: &[u8], run: &impl Run) -> Result<(), String> {
     judge_errors(NOT_WRITTEN, &printed)?;
     let mut output = Vec::new();
     ours.read_to_end(&mut output).map_err(failed)?;
-    if output.is_empty() || !listing(feed).starts_with(&output) {
+    if output.is_empty() || !listing_within(limits, feed).starts_with(&output) {
         return Err("what was written before is not the start of the listing".into());
     }
     if input.stream_position().map_err(failed)? == feed.len() as u64 {
@@ -116,23 +117,25 @@ fn judge_filled(feed: &[u8], run: &impl Run) -> Result<(), String> {
     Ok(())
 }
 
-fn outputs(runs: &mut Runs, run: &impl Run) {
-    let long = feeds::feed(1, "long").expect("a kind that exists");
+fn outputs(limits: Limits, runs: &mut Runs, run: &impl Run) {
+    let long = feeds::feed_within(limits, 1, "long").expect("a kind that exists");
     runs.take("the output is full, no input", judge_full(&[], run));
     runs.take("the output is full, month A", judge_full(&feeds::month_a(), run));
     runs.take("the output is full, feed long seed 1", judge_full(&long, run));
-    runs.take("the output fails after some bytes, feed long seed 1", judge_filled(&long, run));
+    let filled = judge_filled(limits, &long, run);
+    runs.take("the output fails after some bytes, feed long seed 1", filled);
 }
 
-/// Holds a program to what it must say where its input or its output fails.
-pub fn failures(run: &impl Run) -> bool {
+/// Holds a program, whose book has some limits, to what it must say where its input or its output
+/// fails. A demonstration says the same as a listing.
+pub fn failures(limits: Limits, run: &impl Run) -> bool {
     let mut runs = Runs::new("failures");
-    let made = inputs(&mut runs, run);
+    let made = inputs(limits, &mut runs, run);
     if let Err(error) = &made {
         println!("an input could not be made: {error}");
     }
     let inputs = runs.runs;
-    outputs(&mut runs, run);
+    outputs(limits, &mut runs, run);
     let covered = format!("{inputs} inputs, {} outputs", runs.runs - inputs);
     runs.stands(&covered, made.is_ok())
 }

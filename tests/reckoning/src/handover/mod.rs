@@ -12,6 +12,7 @@ mod tests;
 
 use crate::codec;
 use crate::feeds;
+use crate::limits::{Limits, DEMONSTRATION, MARKET};
 use crate::program::{self, Printed};
 use std::os::fd::OwnedFd;
 
@@ -70,9 +71,10 @@ fn entry_ends(feed: &[u8]) -> Vec<usize> {
     ends
 }
 
-/// The start of a feed of 100,000 entries: whole entries, up to so many bytes.
-fn start_of_long(seed: u64, most: usize) -> Vec<u8> {
-    let mut feed = feeds::feed(seed, "long").expect("a kind that exists");
+/// The start of a feed of 100,000 entries for a book of some limits: whole entries, up to so many
+/// bytes.
+fn start_of_long(limits: Limits, seed: u64, most: usize) -> Vec<u8> {
+    let mut feed = feeds::feed_within(limits, seed, "long").expect("a kind that exists");
     let ends = entry_ends(&feed);
     let end = ends.iter().rfind(|&&end| end <= most);
     feed.truncate(*end.expect("room for n"));
@@ -83,8 +85,17 @@ fn start_of_long(seed: u64, most: usize) -> Vec<u8> {
 /// agrees.
 pub fn handover(listing: &str) -> bool {
     let run = |input, output| program::run_on(listing, input, output);
-    let small_writes = small_writes::small_writes(&run);
+    let small_writes = small_writes::small_writes(MARKET, &run);
     let block_ends = block_ends::block_ends(&block_ends::Cuts::every(), &run);
-    let failures = failures::failures(&run);
+    let failures = failures::failures(MARKET, &run);
     small_writes && block_ends && failures
+}
+
+/// Holds the demonstration at a path to the reckoning over a feed in small writes, and where its
+/// input or its output fails; true only if all agrees.
+pub fn handover_of_demonstration(path: &str) -> bool {
+    let run = |input, output| program::run_on(path, input, output);
+    let small_writes = small_writes::small_writes(DEMONSTRATION, &run);
+    let failures = failures::failures(DEMONSTRATION, &run);
+    small_writes && failures
 }

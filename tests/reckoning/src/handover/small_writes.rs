@@ -3,11 +3,12 @@
 use super::inputs::run_on_packets;
 use super::{entry_ends, start_of_long, Run, Runs};
 use crate::demand3::Count;
-use crate::judge::judge_listing;
+use crate::judge::judge_within;
+use crate::limits::Limits;
 use crate::random::Random;
 use crate::refusals::ACCEPTED;
 
-/// A feed of n = 64, so that a settlement prints many payouts.
+/// A feed whose n is the participant limit, so that a settlement prints many payouts.
 const SEED: u64 = 1;
 const MOST_BYTES: usize = 250_000;
 /// A write has 1 to so many bytes.
@@ -37,22 +38,23 @@ fn various(count: &Count) -> bool {
     various && count.settled_months > 0 && count.late_receipts > 0
 }
 
-/// Holds a program to the reckoning over a feed in small writes.
-pub fn small_writes(run: &impl Run) -> bool {
-    let feed = start_of_long(SEED, MOST_BYTES);
+/// Holds a program, whose book has some limits, to the reckoning over a feed in small writes.
+pub fn small_writes(limits: Limits, run: &impl Run) -> bool {
+    let feed = start_of_long(limits, SEED, MOST_BYTES);
     let (entries, ends) = (entry_ends(&feed).len() - 1, write_ends(feed.len()));
     let mut runs = Runs::new("small writes");
     let judged = run_on_packets(run, &feed, &ends).and_then(|(printed, written)| {
         let found = printed.without_errors()?;
-        Ok((judge_listing(&feed, &found)?, written))
+        Ok((judge_within(limits, &feed, &found)?, written))
     });
     let name = format!("feed long seed {SEED}, {} bytes", feed.len());
     let (count, written) = runs.take(&name, judged).unwrap_or_default();
     let enough = written >= LEAST_WRITES && entries >= LEAST_ENTRIES && various(&count);
     let (months, late) = (count.settled_months, count.late_receipts);
     let covered = format!(
-        "{written} writes, {entries} entries, {} washups that added cents, {months} settled \
+        "n {}, {written} writes, {entries} entries, {} washups that added cents, {months} settled \
          months, {} draws on purses, {late} late receipts",
+        feed[0],
         count.washups.added(),
         count.draws.drawn()
     );

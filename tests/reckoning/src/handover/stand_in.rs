@@ -4,7 +4,9 @@ use super::failures::{NOT_READ, NOT_WRITTEN};
 use super::{Run, BLOCK};
 use crate::book::Book;
 use crate::codec;
+use crate::limits::{Limits, MARKET};
 use crate::listing::{listing, print_entry};
+use crate::making::Making;
 use crate::program::Printed;
 use crate::refusals::{ACCEPTED, TOO_FEW_BYTES};
 use std::fs::File;
@@ -33,6 +35,8 @@ pub enum Wrong {
 }
 
 struct StandIn<W: Write> {
+    /// Those of its book.
+    limits: Limits,
     wrong: Wrong,
     out: W,
     /// Whether a write failed.
@@ -50,11 +54,15 @@ impl<W: Write> StandIn<W> {
         !self.lost || self.wrong == Wrong::ReadsOn
     }
 
+    fn book_of(&self, n: u8) -> Book {
+        Book::make(&Making::within(self.limits, n.into())).0
+    }
+
     /// The lines of the whole entries that are at hand.
     fn entries(&mut self) -> Vec<u8> {
         let (mut text, mut place) = (Vec::new(), 0);
         if self.book.is_none() {
-            self.book = self.part.first().map(|&n| Book::alone(n.into()));
+            self.book = self.part.first().map(|&n| self.book_of(n));
             place = 1;
         }
         let book = self.book.as_mut().expect("n was read");
@@ -119,17 +127,23 @@ impl<W: Write> StandIn<W> {
     }
 }
 
-fn print(wrong: Wrong, input: OwnedFd, out: impl Write) -> Vec<u8> {
-    let stand_in = StandIn { wrong, out, lost: false, book: None, number: 0, part: Vec::new() };
+fn print((limits, wrong): (Limits, Wrong), input: OwnedFd, out: impl Write) -> Vec<u8> {
+    let (book, part) = (None, Vec::new());
+    let stand_in = StandIn { limits, wrong, out, lost: false, book, number: 0, part };
     stand_in.print(input.into()).to_vec()
 }
 
 pub fn stand_in(wrong: Wrong) -> impl Run {
+    stand_in_within(MARKET, wrong)
+}
+
+/// The same with a book of some limits.
+pub fn stand_in_within(limits: Limits, wrong: Wrong) -> impl Run {
     move |input, output: Option<OwnedFd>| {
         let mut printed = Printed::default();
         printed.errors = match output {
-            Some(output) => print(wrong, input, File::from(output)),
-            None => print(wrong, input, &mut printed.output),
+            Some(output) => print((limits, wrong), input, File::from(output)),
+            None => print((limits, wrong), input, &mut printed.output),
         };
         Ok(printed)
     }

@@ -3,8 +3,9 @@
 use super::block_ends::{block_ends, Cuts};
 use super::failures::failures;
 use super::small_writes::small_writes;
-use super::stand_in::{stand_in, Wrong};
+use super::stand_in::{stand_in, stand_in_within, Wrong};
 use super::Runs;
+use crate::limits::{DEMONSTRATION, MARKET};
 
 /// One place in so many about the block ends is taken, since here the time counts.
 const STEP: usize = 5;
@@ -13,16 +14,32 @@ const FEW: usize = 57;
 
 #[test]
 fn a_right_listing_stands() {
-    assert!(small_writes(&stand_in(Wrong::Nothing)));
+    assert!(small_writes(MARKET, &stand_in(Wrong::Nothing)));
     assert!(block_ends(&Cuts::some(STEP), &stand_in(Wrong::Nothing)));
-    assert!(failures(&stand_in(Wrong::Nothing)));
+    assert!(failures(MARKET, &stand_in(Wrong::Nothing)));
+}
+
+/// It is no listing of the market's feeds, whose n passes its limit.
+#[test]
+fn a_right_demonstration_stands() {
+    let right = stand_in_within(DEMONSTRATION, Wrong::Nothing);
+    assert!(small_writes(DEMONSTRATION, &right));
+    assert!(failures(DEMONSTRATION, &right));
+    assert!(!small_writes(MARKET, &right));
+}
+
+#[test]
+fn a_demonstration_that_says_nothing_where_a_stream_fails_is_told() {
+    for wrong in [Wrong::SilentOnInput, Wrong::SilentOnOutput] {
+        assert!(!failures(DEMONSTRATION, &stand_in_within(DEMONSTRATION, wrong)), "{wrong:?}");
+    }
 }
 
 #[test]
 fn a_listing_that_ends_after_some_reads_is_told_by_small_writes() {
     for reads in [1_000, 1 << 16] {
         let wrong = stand_in(Wrong::EndsAfterReads(reads));
-        assert!(!small_writes(&wrong));
+        assert!(!small_writes(MARKET, &wrong));
         // Few reads take whole blocks to their end.
         assert!(block_ends(&Cuts::some(FEW), &wrong));
     }
@@ -31,7 +48,7 @@ fn a_listing_that_ends_after_some_reads_is_told_by_small_writes() {
 #[test]
 fn a_listing_that_ends_at_a_short_read_is_told() {
     let wrong = stand_in(Wrong::EndsAtShortRead);
-    assert!(!small_writes(&wrong));
+    assert!(!small_writes(MARKET, &wrong));
     assert!(!block_ends(&Cuts::some(STEP), &wrong));
 }
 
@@ -42,23 +59,23 @@ fn a_byte_lost_at_a_block_end_is_told() {
         let wrong = stand_in(Wrong::SkipsAfterPart(part));
         assert!(!block_ends(&Cuts::some(FEW), &wrong), "{part}");
         // Small writes never fill a block.
-        assert!(small_writes(&wrong));
+        assert!(small_writes(MARKET, &wrong));
     }
 }
 
 #[test]
 fn a_failure_that_is_not_said_or_does_not_end_the_listing_is_told() {
     for wrong in [Wrong::SilentOnInput, Wrong::SilentOnOutput, Wrong::ListsPart, Wrong::ReadsOn] {
-        assert!(!failures(&stand_in(wrong)), "{wrong:?}");
+        assert!(!failures(MARKET, &stand_in(wrong)), "{wrong:?}");
     }
 }
 
 #[test]
 fn a_word_on_standard_error_where_nothing_fails_is_told() {
     let wrong = stand_in(Wrong::SaysMore);
-    assert!(!small_writes(&wrong));
+    assert!(!small_writes(MARKET, &wrong));
     assert!(!block_ends(&Cuts::some(FEW), &wrong));
-    assert!(failures(&wrong));
+    assert!(failures(MARKET, &wrong));
 }
 
 #[test]

@@ -5,10 +5,11 @@ mod noise;
 #[cfg(test)]
 mod tests;
 
-use crate::compare::print_answers;
-use crate::judge::judge_listing;
+use crate::judge::judge_within;
+use crate::limits::{Limits, DEMONSTRATION, MARKET};
 use crate::program;
 use crate::refusals::*;
+use crate::totals::print_answers;
 use std::sync::atomic::{AtomicUsize, Ordering};
 use std::thread;
 
@@ -31,11 +32,18 @@ trait Run: Fn(&[u8]) -> Result<Vec<u8>, String> + Sync {}
 
 impl<F: Fn(&[u8]) -> Result<Vec<u8>, String> + Sync> Run for F {}
 
+/// A program whose book has some limits.
+struct Program<R: Run> {
+    of: &'static str,
+    limits: Limits,
+    run: R,
+}
+
 impl Totals {
-    fn judge(&mut self, feed: Vec<u8>, run: &impl Run) {
+    fn judge(&mut self, feed: Vec<u8>, program: &Program<impl Run>) {
         self.feeds += 1;
-        let judged = run(&feed).and_then(|found| {
-            let count = judge_listing(&feed, &found)?;
+        let judged = (program.run)(&feed).and_then(|found| {
+            let count = judge_within(program.limits, &feed, &found)?;
             Ok((count.answers, found.iter().filter(|&&byte| byte == b'\n').count()))
         });
         match judged {
@@ -92,7 +100,11 @@ impl Totals {
 }
 
 /// Judges feeds by their numbers, with a thread for each processor.
-fn judge_all(count: usize, feed: impl Fn(usize) -> Vec<u8> + Sync, run: &impl Run) -> Totals {
+fn judge_all(
+    count: usize,
+    feed: impl Fn(usize) -> Vec<u8> + Sync,
+    program: &Program<impl Run>,
+) -> Totals {
     let next = AtomicUsize::new(0);
     let judge_some = || {
         let mut totals = Totals::default();
@@ -101,7 +113,7 @@ fn judge_all(count: usize, feed: impl Fn(usize) -> Vec<u8> + Sync, run: &impl Ru
             if number >= count {
                 return totals;
             }
-            totals.judge(feed(number), run);
+            totals.judge(feed(number), program);
         }
     };
     let processors = thread::available_parallelism().map_or(1, usize::from);
@@ -112,9 +124,9 @@ fn judge_all(count: usize, feed: impl Fn(usize) -> Vec<u8> + Sync, run: &impl Ru
     })
 }
 
-fn judge_listed(name: &str, feeds: &[Vec<u8>], seen: &[u8], run: &impl Run) -> bool {
-    let totals = judge_all(feeds.len(), |number| feeds[number].clone(), run);
-    totals.print(name);
+fn judge_listed(name: &str, feeds: &[Vec<u8>], seen: &[u8], program: &Program<impl Run>) -> bool {
+    let totals = judge_all(feeds.len(), |number| feeds[number].clone(), program);
+    totals.print(&format!("{}{name}", program.of));
     totals.stands(seen)
 }
 
@@ -126,21 +138,45 @@ struct Feeds {
     random: usize,
 }
 
-fn judge_malformed(feeds: &Feeds, run: &impl Run) -> bool {
+fn judge_malformed(feeds: &Feeds, program: &Program<impl Run>) -> bool {
     // Values about a bound make a purse pass its own, and an earlier period lie outside.
     let of_bytes = [ACCEPTED, TOO_FEW_BYTES, KIND_UNKNOWN, FIELD_OUTSIDE];
     let seen = [&of_bytes[..], &[PURSE_PASSES_BOUND, EARLIER_PERIOD_OUTSIDE]].concat();
-    let every_byte = judge_listed("every byte", &feeds.every_byte, &seen, run);
-    let cuts = judge_listed("every cut", &feeds.every_cut, &[ACCEPTED, TOO_FEW_BYTES], run);
-    let random = judge_all(feeds.random, |number| noise::feed(number as u64), run);
-    random.print("random bytes");
+    // The scene's three periods, and n of 64, are at a demonstration's limit and above it.
+    let at_limits: &[u8] = match program.limits {
+        MARKET => &[],
+        _ => &[N_REFUSED, PERIODS_AT_LIMIT],
+    };
+    let of_scene = [&seen[..], at_limits].concat();
+    let every_byte = judge_listed("every byte", &feeds.every_byte, &of_scene, program);
+    let cuts = judge_listed("every cut", &feeds.every_cut, &[ACCEPTED, TOO_FEW_BYTES], program);
+    let random = judge_all(feeds.random, |number| noise::feed(number as u64), program);
+    random.print(&format!("{}random bytes", program.of));
     every_byte && cuts && random.stands(&seen) && random.stands(&[N_REFUSED])
 }
 
-/// Holds the listing at a path to the reckoning over malformed feeds, so many of them of
-/// random bytes; true only if all agrees.
-pub fn malformed(listing: &str, feeds: usize) -> bool {
+/// One malformed feed of so many is put to the demonstration too, but of random bytes at least so many.
+const SHARE: usize = 16;
+const LEAST_RANDOM: usize = 2_000;
+
+impl Feeds {
+    /// A share of them.
+    fn share(&self) -> Feeds {
+        let some = |feeds: &[Vec<u8>]| feeds.iter().step_by(SHARE).cloned().collect();
+        let (every_byte, every_cut) = (some(&self.every_byte), some(&self.every_cut));
+        let random = (self.random / SHARE).max(LEAST_RANDOM).min(self.random);
+        Feeds { every_byte, every_cut, random }
+    }
+}
+
+/// Holds the programs at two paths to the reckoning over malformed feeds, so many of them of random
+/// bytes; true only if all agrees.
+pub fn malformed(listing: &str, demonstration: &str, feeds: usize) -> bool {
     let (every_byte, every_cut) = (bytes::every_byte(), bytes::every_cut());
     let feeds = Feeds { every_byte, every_cut, random: feeds };
-    judge_malformed(&feeds, &|feed: &[u8]| program::run(listing, feed))
+    let run = |feed: &[u8]| program::run(listing, feed);
+    let listed = judge_malformed(&feeds, &Program { of: "", limits: MARKET, run });
+    let (of, run) = ("demonstration, ", |feed: &[u8]| program::run(demonstration, feed));
+    let demonstrated = Program { of, limits: DEMONSTRATION, run };
+    judge_malformed(&feeds.share(), &demonstrated) && listed
 }

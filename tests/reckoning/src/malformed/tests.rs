@@ -1,8 +1,9 @@
 //! The malformed feeds against listings in this process, right ones and wrong ones.
 
-use super::{bytes, judge_all, judge_malformed, noise, Feeds, Totals};
+use super::{bytes, judge_all, judge_malformed, noise, Feeds, Program, Run, Totals};
 use crate::book::Book;
-use crate::listing::listing;
+use crate::limits::{Limits, DEMONSTRATION, MARKET};
+use crate::listing::{listing, listing_within};
 
 const FEEDS: usize = 2_000;
 
@@ -12,8 +13,12 @@ fn wrong(feed: &[u8], from: &str, to: &str) -> Result<Vec<u8>, String> {
     Ok(text.replace(from, to).into_bytes())
 }
 
+fn by<R: Run>(limits: Limits, run: R) -> Program<R> {
+    Program { of: "", limits, run }
+}
+
 fn of_noise(run: impl Fn(&[u8]) -> Result<Vec<u8>, String> + Sync) -> Totals {
-    judge_all(FEEDS, |number| noise::feed(number as u64), &run)
+    judge_all(FEEDS, |number| noise::feed(number as u64), &by(MARKET, run))
 }
 
 #[test]
@@ -39,8 +44,13 @@ fn some_feeds() -> Feeds {
 }
 
 #[test]
-fn a_right_listing_stands() {
-    assert!(judge_malformed(&some_feeds(), &|feed: &[u8]| Ok(listing(feed))));
+fn a_right_listing_stands_in_its_own_book_alone() {
+    for limits in [MARKET, DEMONSTRATION] {
+        let right = |feed: &[u8]| Ok(listing_within(limits, feed));
+        assert!(judge_malformed(&some_feeds(), &by(limits, right)));
+        let others = [MARKET, DEMONSTRATION].into_iter().find(|&others| others != limits).unwrap();
+        assert!(!judge_malformed(&some_feeds(), &by(others, right)));
+    }
 }
 
 #[test]
@@ -67,7 +77,7 @@ fn a_listing_wrong_in_one_part_fails_the_whole() {
     for chosen in chosen {
         let right = |feed: &[u8]| Some(feed) != chosen.as_deref();
         let run = |feed: &[u8]| Ok(if right(feed) { listing(feed) } else { vec![] });
-        assert!(!judge_malformed(&feeds, &run));
+        assert!(!judge_malformed(&feeds, &by(MARKET, run)));
     }
 }
 

@@ -1,6 +1,6 @@
 //! Energy, washups and amounts in the rotation, and how sides are filled to their bound.
 
-use super::rotation::{scale_of, Rotation, NOTICE_DUE};
+use super::rotation::{scale_of, Rotation};
 use crate::aim::Scale;
 use crate::codec::Entry;
 
@@ -30,7 +30,7 @@ impl Rotation {
     /// Whether the sides of a period before its notice are filled now.
     fn is_to_fill(&self, number: u32) -> bool {
         let month = self.plan.entries_of_a_month();
-        let notice_due = self.opened_after[&number] + month * self.plan.age(NOTICE_DUE) / 100;
+        let notice_due = self.opened_after[&number] + month * self.plan.notice_due() / 100;
         let left = notice_due.saturating_sub(self.reach.entries);
         scale_of(number) == Scale::Bound && left <= FULL_LEAST.max(month / FULL_PART)
     }

@@ -10,11 +10,11 @@ mod tests;
 
 pub use rotation::Plan;
 
-use crate::compare::print_answers;
 use crate::counts_of_washups;
 use crate::draws::Sight;
 use crate::limits::MOST_PARTICIPANTS;
 use crate::refusals::{EARLIER_PERIOD_OUTSIDE, NOT_ABOVE_HIGHEST, NO_PARTICIPANT};
+use crate::totals::print_answers;
 use memory::Memory;
 use rotation::{Reach, Rotation};
 use std::process::{Child, Command, Stdio};

@@ -17,10 +17,11 @@ use crate::watch_of_washups;
 use std::collections::BTreeMap;
 
 /// Ages of a period in hundredths of a month, where the period limit is twelve.
-pub(super) const NOTICE_DUE: u64 = 300;
-const SETTLE_DUE: u64 = 400;
+const NOTICE_DUE: u64 = 300;
 /// The last arrears are paid right before the twelfth month after the opening.
 const LEAVING_DUE: u64 = 1_190;
+/// Where the limit is small a period is still before its notice for a month, so that there is one.
+const A_MONTH: u64 = 100;
 
 /// So many entries, money for purses, come before the first opening.
 const EARLIEST: u64 = 3;
@@ -53,8 +54,21 @@ impl Plan {
     }
 
     /// An age where the period limit is twelve, as it is where that is the plan's.
-    pub(super) fn age(&self, of_twelve: u64) -> u64 {
+    fn age(&self, of_twelve: u64) -> u64 {
         of_twelve * self.limits.periods / MOST_PERIODS
+    }
+
+    pub(super) fn notice_due(&self) -> u64 {
+        self.age(NOTICE_DUE).max(A_MONTH)
+    }
+
+    /// After the notice comes a third of the time before it.
+    fn settle_due(&self) -> u64 {
+        self.notice_due() * 4 / 3
+    }
+
+    fn leaving_due(&self) -> u64 {
+        self.age(LEAVING_DUE)
     }
 }
 
@@ -139,11 +153,10 @@ impl Rotation {
     fn due_on(&mut self, number: u32) -> Option<Entry> {
         let age = self.age(number);
         let plan = self.plan;
-        let due = |of_twelve| plan.age(of_twelve);
         match self.aim.book.periods[&number].stage {
-            Stage::BeforeNotice if age >= due(NOTICE_DUE) => Some(self.aim.close(number)),
-            Stage::Noticed(_) if age >= due(SETTLE_DUE) => Some(self.settling(number)),
-            Stage::Settled { .. } if age >= due(LEAVING_DUE) => self.receipt_in_full(number),
+            Stage::BeforeNotice if age >= plan.notice_due() => Some(self.aim.close(number)),
+            Stage::Noticed(_) if age >= plan.settle_due() => Some(self.settling(number)),
+            Stage::Settled { .. } if age >= plan.leaving_due() => self.receipt_in_full(number),
             _ => None,
         }
     }

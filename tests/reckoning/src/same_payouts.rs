@@ -1,0 +1,208 @@
+//! Lists that a book of some limits accepts throughout give the same payouts in a book whose limits are
+//! not below (02, f), of the same n, groups and reserves. What a program prints for both is compared,
+//! and nothing else.
+
+use crate::aim::{Aim, Manner, Scale};
+use crate::calls;
+use crate::codec::Entry;
+use crate::counts_of_lists::Lists;
+use crate::groupings;
+use crate::limits::{Limits, DEMONSTRATION, MARKET, MOST_PARTICIPANTS, MOST_PERIODS};
+use crate::making::Making;
+use crate::makings_of_limits::any_limits;
+use crate::random::Random;
+use crate::trials::any_manner;
+use crate::watch_of_lists::Watch;
+
+/// How many lists a comparison puts to books of random limits, and how many to both listing programs.
+pub const LISTS: u64 = 60;
+pub const FEEDS: u64 = 40;
+/// How many entries a list has.
+const ENTRIES: usize = 160;
+
+/// A list that the book of a making accepts throughout.
+pub struct List {
+    pub making: Making,
+    /// Not below those of the making.
+    pub larger: Limits,
+    /// Each entry with the payout words that are lent with it.
+    entries: Vec<(Entry, u8)>,
+    /// What there is to see in it.
+    pub seen: Lists,
+}
+
+/// Few cents and no purpose to be refused, so that many months are settled, with late receipts.
+fn manner(random: &mut Random, making: &Making) -> Manner {
+    let scale = random.pick(&[Scale::Few, Scale::Few, Scale::Hundreds, Scale::Millions]);
+    let amounts = making.n.min(6) + 1;
+    let periods = making.limits.periods;
+    Manner { scale, wrong: 0, periods, amounts, ..any_manner(random, making.n) }
+}
+
+/// n payout words, more, as many as the participant limit, or as many as there can be.
+fn any_words(random: &mut Random, making: &Making) -> u8 {
+    random.pick(&[making.n, making.n + 2, making.limits.participants, MOST_PARTICIPANTS]) as u8
+}
+
+/// The list of a book that is made so.
+fn draw(random: Random, making: Making, larger: Limits) -> List {
+    let mut random = random;
+    let manner = manner(&mut random, &making);
+    let mut aim = Aim::new(random, &making, manner);
+    let (mut entries, mut watch) = (Vec::new(), Watch::new(&making));
+    while entries.len() < ENTRIES {
+        let entry = aim.propose();
+        let words = any_words(&mut aim.random, &making);
+        if aim.book.refusal(&entry, words.into()).is_none() {
+            watch.before(&aim.book, &entry);
+            let mut paid = vec![0; words.into()];
+            let answer = aim.book.apply(&entry, &mut paid);
+            watch.after(&aim.book, answer, &paid);
+            entries.push((entry, words));
+        }
+    }
+    List { making, larger, entries, seen: watch.seen }
+}
+
+/// The list for a seed, of random limits, groups and reserves.
+pub fn list(seed: u64) -> List {
+    let mut random = Random::new(seed.wrapping_mul(64).wrapping_add(52));
+    let limits = any_limits(&mut random);
+    let most = limits.participants;
+    let n = random.between(most.min(2), most.min(8));
+    let making = match random.chance(3, 4) {
+        true => Making { limits, ..groupings::any_making(&mut random, n) },
+        false => Making::within(limits, n),
+    };
+    let participants = random.between(most, MOST_PARTICIPANTS);
+    let periods = random.between(limits.periods, MOST_PERIODS);
+    draw(random, making, Limits { participants, periods })
+}
+
+/// The list for a seed of a demonstration book, as feeds have it.
+pub fn list_of_class(seed: u64) -> List {
+    let mut random = Random::new(seed.wrapping_mul(64).wrapping_add(51));
+    let n = random.between(2, DEMONSTRATION.participants);
+    draw(random, Making::within(DEMONSTRATION, n), MARKET)
+}
+
+impl List {
+    fn trial(&self, book: Vec<u8>) -> Vec<u8> {
+        let entries = self.entries.iter().flat_map(|(entry, words)| calls::apply(entry, *words));
+        book.into_iter().chain(entries).collect()
+    }
+
+    /// The list in the book that accepts it.
+    pub fn in_its_book(&self) -> Vec<u8> {
+        self.trial(calls::book_of_limits(&self.making))
+    }
+
+    /// In the market's book, and in one of other limits that are not below.
+    pub fn in_others(&self) -> [(&'static str, Vec<u8>); 2] {
+        let larger = Making { limits: self.larger, ..self.making.clone() };
+        [
+            ("the market's book", self.trial(calls::book_in_groups(&self.making))),
+            ("larger limits", self.trial(calls::book_of_limits(&larger))),
+        ]
+    }
+
+    pub fn feed(&self) -> Vec<u8> {
+        let entries = self.entries.iter().flat_map(|(entry, _)| entry.bytes());
+        [self.making.n as u8].into_iter().chain(entries).collect()
+    }
+}
+
+/// The numbers of a line before its payout words: the answer, the rounds and the cents held.
+const BEFORE_WORDS: usize = 4;
+
+fn words(line: &str) -> Vec<&str> {
+    line.split(' ').skip(BEFORE_WORDS).collect()
+}
+
+/// Judges what a program printed for a list in the book that accepts it, and in another one.
+pub fn judge(in_its_book: &[u8], in_another: &[u8]) -> Result<(), String> {
+    let [small, large] = [in_its_book, in_another].map(String::from_utf8_lossy);
+    let (mut small, mut large) = (small.lines(), large.lines());
+    if [small.next(), large.next()] != [Some("book 0"); 2] {
+        return Err("a book was refused".into());
+    }
+    for entry in 1.. {
+        match (small.next(), large.next()) {
+            (None, None) => break,
+            (Some(line), _) if !line.starts_with("apply 0 ") => {
+                return Err(format!("entry {entry} is not accepted: {line}"));
+            }
+            (Some(line), Some(other)) if words(line) == words(other) => (),
+            (line, other) => {
+                return Err(format!("entry {entry}, other payouts: {line:?} and {other:?}"));
+            }
+        }
+    }
+    Ok(())
+}
+
+/// How lists that a book accepts are judged where books are made so; what was told, if something was.
+pub fn told_by(lines: impl Fn(&[u8]) -> Vec<u8>, list: &List) -> Option<String> {
+    let in_its_book = lines(&list.in_its_book());
+    let others = list.in_others();
+    let judged = |(of, calls): &(&str, Vec<u8>)| {
+        let told = judge(&in_its_book, &lines(calls)).err();
+        told.map(|what| format!("{of}: {what}"))
+    };
+    others.iter().find_map(judged)
+}
+
+#[cfg(test)]
+mod tests {
+    use super::*;
+    use crate::listing::listing_within;
+    use crate::trial;
+
+    #[test]
+    fn each_list_is_accepted_throughout_and_pays_the_same() {
+        let mut seen = Lists::default();
+        for seed in 0..LISTS {
+            let list = list(seed);
+            assert_eq!(told_by(trial::expected, &list), None, "seed {seed}");
+            seen.add(&list.seen);
+        }
+        assert!(seen.covered(), "{seen:?}");
+    }
+
+    #[test]
+    fn each_list_of_a_class_is_listed_alike() {
+        let mut seen = Lists::default();
+        for seed in 0..FEEDS {
+            let list = list_of_class(seed);
+            let feed = list.feed();
+            let [small, large] = [DEMONSTRATION, MARKET].map(|it| listing_within(it, &feed));
+            assert_eq!(small, large, "seed {seed}");
+            seen.add(&list.seen);
+        }
+        assert!(seen.covered_by_feeds(), "{seen:?}");
+    }
+
+    /// A line of a trial with something changed.
+    fn changed(text: &[u8], from: &str, to: &str) -> Vec<u8> {
+        let text = String::from_utf8_lossy(text);
+        assert!(text.contains(from));
+        text.replacen(from, to, 1).into_bytes()
+    }
+
+    #[test]
+    fn other_payouts_a_refusal_and_a_lost_line_are_told() {
+        let list = list(1);
+        let right = trial::expected(&list.in_its_book());
+        assert_eq!(judge(&right, &right), Ok(()));
+        // Rounds and cents held are no payouts.
+        assert_eq!(judge(&right, &changed(&right, "apply 0 0 ", "apply 0 7 ")), Ok(()));
+        let text = String::from_utf8_lossy(&right).into_owned();
+        let line = text.lines().nth(5).unwrap();
+        let other = format!("{line} 1");
+        assert!(judge(&right, &changed(&right, line, &other)).is_err());
+        assert!(judge(&right, &changed(&right, &format!("{line}\n"), "")).is_err());
+        assert!(judge(&changed(&right, "apply 0", "apply 7"), &right).is_err());
+        assert!(judge(&changed(&right, "book 0", "book 4"), &right).is_err());
+        assert!(judge(&right, &changed(&right, "book 0", "book 4")).is_err());
+    }
+}
