@@ -193,7 +193,10 @@ fn compare_lists(totals: &mut Totals, program: &str) {
         let in_its_book = totals.trial(program, &name, &calls);
         for (of, in_another) in list.in_others() {
             let found = totals.trial(program, &format!("{name} in {of}"), &in_another);
-            let judged = in_its_book.clone().and_then(|small| same_payouts::judge(&small, &found?));
+            let judged = in_its_book.clone().and_then(|small| {
+                same_payouts::accepted(&small)?;
+                same_payouts::same(&small, &found?)
+            });
             if let Err(what) = judged {
                 totals.different.show(&format!("{name}, payouts in {of}"), &calls, &what);
             }

@@ -3,6 +3,7 @@
 //! and nothing else.
 
 use crate::aim::{Aim, Manner, Scale};
+use crate::book::{Book, Make};
 use crate::calls;
 use crate::codec::Entry;
 use crate::counts_of_lists::Lists;
@@ -11,6 +12,7 @@ use crate::limits::{Limits, DEMONSTRATION, MARKET, MOST_PARTICIPANTS, MOST_PERIO
 use crate::making::Making;
 use crate::makings_of_limits::any_limits;
 use crate::random::Random;
+use crate::refusals::ACCEPTED;
 use crate::trials::any_manner;
 use crate::watch_of_lists::Watch;
 
@@ -44,20 +46,22 @@ fn any_words(random: &mut Random, making: &Making) -> u8 {
     random.pick(&[making.n, making.n + 2, making.limits.participants, MOST_PARTICIPANTS]) as u8
 }
 
-/// The list of a book that is made so.
-fn draw(random: Random, making: Making, larger: Limits) -> List {
+/// The list of a book that is made so, by a making.
+fn draw(make: Make, random: Random, making: Making, larger: Limits) -> List {
     let mut random = random;
     let manner = manner(&mut random, &making);
     let mut aim = Aim::new(random, &making, manner);
+    aim.book = make(&making).0;
     let (mut entries, mut watch) = (Vec::new(), Watch::new(&making));
     while entries.len() < ENTRIES {
         let entry = aim.propose();
         let words = any_words(&mut aim.random, &making);
-        if aim.book.refusal(&entry, words.into()).is_none() {
+        let (mut book, mut paid) = (aim.book.clone(), vec![0; words.into()]);
+        let answer = book.apply(&entry, &mut paid);
+        if answer.number == ACCEPTED {
             watch.before(&aim.book, &entry);
-            let mut paid = vec![0; words.into()];
-            let answer = aim.book.apply(&entry, &mut paid);
-            watch.after(&aim.book, answer, &paid);
+            watch.after(&book, answer, &paid);
+            aim.book = book;
             entries.push((entry, words));
         }
     }
@@ -66,6 +70,11 @@ fn draw(random: Random, making: Making, larger: Limits) -> List {
 
 /// The list for a seed, of random limits, groups and reserves.
 pub fn list(seed: u64) -> List {
+    list_by(Book::make, seed)
+}
+
+/// The same, which a book that is made so accepts throughout.
+pub fn list_by(make: Make, seed: u64) -> List {
     let mut random = Random::new(seed.wrapping_mul(64).wrapping_add(52));
     let limits = any_limits(&mut random);
     let most = limits.participants;
@@ -76,14 +85,14 @@ pub fn list(seed: u64) -> List {
     };
     let participants = random.between(most, MOST_PARTICIPANTS);
     let periods = random.between(limits.periods, MOST_PERIODS);
-    draw(random, making, Limits { participants, periods })
+    draw(make, random, making, Limits { participants, periods })
 }
 
 /// The list for a seed of a demonstration book, as feeds have it.
 pub fn list_of_class(seed: u64) -> List {
     let mut random = Random::new(seed.wrapping_mul(64).wrapping_add(51));
     let n = random.between(2, DEMONSTRATION.participants);
-    draw(random, Making::within(DEMONSTRATION, n), MARKET)
+    draw(Book::make, random, Making::within(DEMONSTRATION, n), MARKET)
 }
 
 impl List {
@@ -119,19 +128,27 @@ fn words(line: &str) -> Vec<&str> {
     line.split(' ').skip(BEFORE_WORDS).collect()
 }
 
-/// Judges what a program printed for a list in the book that accepts it, and in another one.
-pub fn judge(in_its_book: &[u8], in_another: &[u8]) -> Result<(), String> {
-    let [small, large] = [in_its_book, in_another].map(String::from_utf8_lossy);
-    let (mut small, mut large) = (small.lines(), large.lines());
-    if [small.next(), large.next()] != [Some("book 0"); 2] {
-        return Err("a book was refused".into());
+/// Whether a program accepted a list throughout.
+pub fn accepted(printed: &[u8]) -> Result<(), String> {
+    let text = String::from_utf8_lossy(printed);
+    let mut lines = text.lines();
+    if lines.next() != Some("book 0") {
+        return Err("the book was refused".into());
     }
+    match lines.find(|line| !line.starts_with("apply 0 ")) {
+        Some(line) => Err(format!("an entry was not accepted: {line}")),
+        None => Ok(()),
+    }
+}
+
+/// Compares the payout words that a program printed for a list in two books, entry by entry.
+pub fn same(in_its_book: &[u8], in_another: &[u8]) -> Result<(), String> {
+    let [small, large] = [in_its_book, in_another].map(String::from_utf8_lossy);
+    // A line for the book comes first.
+    let (mut small, mut large) = (small.lines().skip(1), large.lines().skip(1));
     for entry in 1.. {
         match (small.next(), large.next()) {
             (None, None) => break,
-            (Some(line), _) if !line.starts_with("apply 0 ") => {
-                return Err(format!("entry {entry} is not accepted: {line}"));
-            }
             (Some(line), Some(other)) if words(line) == words(other) => (),
             (line, other) => {
                 return Err(format!("entry {entry}, other payouts: {line:?} and {other:?}"));
@@ -141,15 +158,16 @@ pub fn judge(in_its_book: &[u8], in_another: &[u8]) -> Result<(), String> {
     Ok(())
 }
 
-/// How lists that a book accepts are judged where books are made so; what was told, if something was.
-pub fn told_by(lines: impl Fn(&[u8]) -> Vec<u8>, list: &List) -> Option<String> {
+/// Whether a list that some lines show to be accepted pays other cents in another book, by the lines
+/// that there are for its calls; and which.
+pub fn pays_others(lines: impl Fn(&[u8]) -> Vec<u8>, list: &List) -> Option<String> {
     let in_its_book = lines(&list.in_its_book());
-    let others = list.in_others();
+    accepted(&in_its_book).ok()?;
     let judged = |(of, calls): &(&str, Vec<u8>)| {
-        let told = judge(&in_its_book, &lines(calls)).err();
+        let told = same(&in_its_book, &lines(calls)).err();
         told.map(|what| format!("{of}: {what}"))
     };
-    others.iter().find_map(judged)
+    list.in_others().iter().find_map(judged)
 }
 
 #[cfg(test)]
@@ -163,7 +181,8 @@ mod tests {
         let mut seen = Lists::default();
         for seed in 0..LISTS {
             let list = list(seed);
-            assert_eq!(told_by(trial::expected, &list), None, "seed {seed}");
+            assert_eq!(accepted(&trial::expected(&list.in_its_book())), Ok(()), "seed {seed}");
+            assert_eq!(pays_others(trial::expected, &list), None, "seed {seed}");
             seen.add(&list.seen);
         }
         assert!(seen.covered(), "{seen:?}");
@@ -193,16 +212,17 @@ mod tests {
     fn other_payouts_a_refusal_and_a_lost_line_are_told() {
         let list = list(1);
         let right = trial::expected(&list.in_its_book());
-        assert_eq!(judge(&right, &right), Ok(()));
+        assert_eq!((accepted(&right), same(&right, &right)), (Ok(()), Ok(())));
         // Rounds and cents held are no payouts.
-        assert_eq!(judge(&right, &changed(&right, "apply 0 0 ", "apply 0 7 ")), Ok(()));
+        assert_eq!(same(&right, &changed(&right, "apply 0 0 ", "apply 0 7 ")), Ok(()));
         let text = String::from_utf8_lossy(&right).into_owned();
         let line = text.lines().nth(5).unwrap();
         let other = format!("{line} 1");
-        assert!(judge(&right, &changed(&right, line, &other)).is_err());
-        assert!(judge(&right, &changed(&right, &format!("{line}\n"), "")).is_err());
-        assert!(judge(&changed(&right, "apply 0", "apply 7"), &right).is_err());
-        assert!(judge(&changed(&right, "book 0", "book 4"), &right).is_err());
-        assert!(judge(&right, &changed(&right, "book 0", "book 4")).is_err());
+        assert!(same(&right, &changed(&right, line, &other)).is_err());
+        assert!(same(&right, &changed(&right, &format!("{line}\n"), "")).is_err());
+        assert!(same(&changed(&right, &format!("{line}\n"), ""), &right).is_err());
+        assert!(accepted(&changed(&right, "apply 0", "apply 7")).is_err());
+        assert!(accepted(&changed(&right, "book 0", "book 4")).is_err());
+        assert!(accepted(b"").is_err());
     }
 }

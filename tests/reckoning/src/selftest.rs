@@ -2,7 +2,7 @@
 //! reported.
 
 use crate::damage::{damage_listings, damage_trials};
-use crate::tries::{try_all_versions, try_demand_3};
+use crate::tries::{try_all_versions, try_demand_3, try_same_payouts};
 
 /// What was tried, and how much of it was reported.
 #[derive(Default)]
@@ -38,15 +38,18 @@ pub fn selftest() -> bool {
         println!("a right output was reported, or a damage was never made");
     }
     let (versions, unbalanced) = (try_all_versions(), try_demand_3());
+    let unequal = try_same_payouts();
     println!(
         "selftest: {} damages, {} reported; {} wrong versions, {} told; {} of them to be told by \
-         demand 3 alone, {} told",
+         demand 3 alone, {} told; {} by the same payouts alone, {} told",
         report.made,
         report.reported,
         versions.made,
         versions.reported,
         unbalanced.made,
-        unbalanced.reported
+        unbalanced.reported,
+        unequal.made,
+        unequal.reported
     );
-    listings && trials && report.all() && versions.all() && unbalanced.all()
+    listings && trials && report.all() && versions.all() && unbalanced.all() && unequal.all()
 }

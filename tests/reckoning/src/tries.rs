@@ -4,22 +4,27 @@
 use crate::book::{Book, Make};
 use crate::by_hand::Case;
 use crate::cases_of_halves;
+use crate::cases_of_limits;
 use crate::demand3;
 use crate::feeds;
 use crate::judge::first_difference;
-use crate::limits::MARKET;
+use crate::limits::{Limits, DEMONSTRATION, MARKET};
 use crate::listing;
 use crate::pairs;
+use crate::same_payouts::{self, LISTS};
 use crate::selftest::Report;
 use crate::trial;
 use crate::trials::{self, TRIALS};
 use crate::trials_of_groups::{self, Named};
+use crate::trials_of_limits;
 use crate::trials_of_purses;
 use crate::trials_of_washups;
 use crate::versions::{self, Wrong};
 use crate::versions_of_draws;
 use crate::versions_of_earlier_periods;
+use crate::versions_of_full_books;
 use crate::versions_of_halves;
+use crate::versions_of_limits;
 use crate::versions_of_purses;
 use crate::versions_of_washups;
 
@@ -56,12 +61,31 @@ fn trials_with_purses() -> Vec<Named> {
 
 /// The trials that wrong versions of 02, e, are tried on, pairs of refusals among them.
 fn trials_with_washups() -> Vec<Named> {
-    let pairs = pairs::pairs().into_iter().filter(|pair| pair.of == "washup");
-    let named = |pair: pairs::Pair| {
+    trials_of_washups::every_trial().chain(pairs_of(&["washup"])).chain(from_seeds()).collect()
+}
+
+/// Those that wrong versions of 02, f, are tried on.
+fn trials_with_limits() -> Vec<Named> {
+    let pairs = pairs_of(&["making of limits", "open at a limit"]);
+    trials_of_limits::every_trial().chain(pairs).collect()
+}
+
+/// The pairs of refusals of some sorts, as trials.
+fn pairs_of(sorts: &'static [&'static str]) -> impl Iterator<Item = Named> {
+    let pairs = pairs::pairs().into_iter().filter(|pair| sorts.contains(&pair.of));
+    pairs.map(|pair| {
         let name = format!("trial pair {} with {}", pair.earlier, pair.later);
         (name, [pair.both, pair.alone].concat())
-    };
-    trials_of_washups::every_trial().chain(pairs.map(named)).chain(from_seeds()).collect()
+    })
+}
+
+/// The feeds that demand 3 is put over as wrong versions of 02, f, list them: the cases, and some from
+/// seeds, aimed by the wrong version's demonstration book.
+fn feeds_with_limits(make: Make) -> Vec<Named> {
+    let feed = |seed| feeds::feed_by((DEMONSTRATION, make), seed, "full");
+    let feed = |seed| feed(seed).expect("a kind that exists");
+    let seeds = (0..FEEDS).map(|seed| (format!("feed full seed {seed}"), feed(seed)));
+    cases_of_limits::feeds().into_iter().chain(seeds).collect()
 }
 
 /// The feeds that demand 3 is put over: the cases of a kind of feed, and some from seeds, aimed by a
@@ -74,11 +98,12 @@ fn feeds_of(kind: &str, cases: Vec<Case>, make: Make) -> Vec<Named> {
     cases.chain(seeds).collect()
 }
 
-/// How many listings of a wrong version demand 3 tells to be wrong, and the first of them.
-fn told_by_demand_3(feeds: &[Named], wrong: &Wrong) -> Option<String> {
+/// How many listings of a wrong version, in books of some limits, demand 3 tells to be wrong, and the
+/// first of them.
+fn told_by_demand_3(limits: Limits, feeds: &[Named], wrong: &Wrong) -> Option<String> {
     let judged = |(name, feed): &Named| {
-        let found = listing::lines_by(wrong.make, feed).0;
-        demand3::check_listing(feed, &found).err().map(|what| format!("{name}: {what}"))
+        let found = listing::lines_within(limits, wrong.make, feed).0;
+        demand3::check_within(limits, feed, &found).err().map(|what| format!("{name}: {what}"))
     };
     let told: Vec<String> = feeds.iter().filter_map(judged).collect();
     told.first().map(|first| format!("by {} of {} listings; {first}", told.len(), feeds.len()))
@@ -99,6 +124,10 @@ fn versions_of_e() -> Vec<Wrong> {
     [&versions_of_washups::WRONG[..], &versions_of_earlier_periods::WRONG].concat()
 }
 
+fn versions_of_f() -> Vec<Wrong> {
+    [&versions_of_limits::wrong_versions()[..], &versions_of_full_books::WRONG].concat()
+}
+
 /// Tries each wrong version of a request on trials that are made for it.
 pub fn try_all_versions() -> Report {
     let mut report = Report::default();
@@ -107,6 +136,7 @@ pub fn try_all_versions() -> Report {
     try_versions(&mut report, 'b', &versions_of_halves::WRONG, &trials_with_halves());
     try_versions(&mut report, 'c', &versions_of_c(), &trials_with_purses());
     try_versions(&mut report, 'e', &versions_of_e(), &trials_with_washups());
+    try_versions(&mut report, 'f', &versions_of_f(), &trials_with_limits());
     report
 }
 
@@ -122,10 +152,29 @@ pub fn try_demand_3() -> Report {
         let with_washups = feeds_of("washups", trials_of_washups::every_case(), wrong.make);
         put_demand_3(&mut report, 'e', wrong, &with_washups);
     }
+    for wrong in versions_of_f().iter().filter(|wrong| wrong.by_demand_3) {
+        put_demand_3(&mut report, 'f', wrong, &feeds_with_limits(wrong.make));
+    }
     report
 }
 
 fn put_demand_3(report: &mut Report, letter: char, wrong: &Wrong, feeds: &[Named]) {
     let name = format!("version of {letter}, by demand 3: {}", wrong.name);
-    report.take(&name, told_by_demand_3(feeds, wrong));
+    let limits = if letter == 'f' { DEMONSTRATION } else { MARKET };
+    report.take(&name, told_by_demand_3(limits, feeds, wrong));
+}
+
+/// Puts lists that a book accepts throughout to each version that pays others in larger books.
+pub fn try_same_payouts() -> Report {
+    let mut report = Report::default();
+    for wrong in versions_of_f().iter().filter(|wrong| wrong.by_same_payouts) {
+        let lines = |calls: &[u8]| trial::lines_by(wrong.make, calls).0;
+        // Drawn by the wrong version's book, which accepts them.
+        let lists = (0..LISTS).map(|seed| same_payouts::list_by(wrong.make, seed));
+        let told = lists.filter_map(|list| same_payouts::pays_others(lines, &list));
+        let told: Vec<String> = told.collect();
+        let what = told.first().map(|first| format!("by {} of {LISTS} lists; {first}", told.len()));
+        report.take(&format!("version of f, by the same payouts: {}", wrong.name), what);
+    }
+    report
 }

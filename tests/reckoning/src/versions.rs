@@ -15,6 +15,8 @@ pub struct Wrong {
     pub make: Make,
     /// Whether demand 3, reckoned from the lines of listings alone, must tell it too.
     pub by_demand_3: bool,
+    /// Whether lists with other payouts in a book of larger limits must tell it too (02, f).
+    pub by_same_payouts: bool,
 }
 
 /// The right book, but for some of its ways.
@@ -35,7 +37,7 @@ fn retaining(making: &Making, retention: Retention) -> (Book, u8) {
 }
 
 /// The book of an answer that was found in a wrong way.
-fn answered(making: &Making, answer: Option<u8>) -> (Book, u8) {
+pub(crate) fn answered(making: &Making, answer: Option<u8>) -> (Book, u8) {
     match answer {
         None => (Book::with(making.clone()), ACCEPTED),
         Some(answer) => (Book::alone(0), answer),
@@ -132,7 +134,8 @@ fn groups_from_n_on_left_out(sums: &Sums, making: &Making) -> Vec<u128> {
     })
 }
 
-fn outside(making: &Making) -> bool {
+/// Whether a group number or a reserve is outside its values, whatever n is.
+pub(crate) fn outside(making: &Making) -> bool {
     let numbers = making.groups.iter().take(making.n.min(64) as usize);
     numbers.max() > Some(&LAST_GROUP) || making.reserves.iter().max() > Some(&MOST_RESERVE)
 }
@@ -163,7 +166,7 @@ fn reserve_at_the_bound_refused(making: &Making) -> (Book, u8) {
 }
 
 /// The same making with reserves of 0 where they are not looked at.
-fn looking_at(making: &Making, reserves: impl Fn(usize) -> bool) -> (Book, u8) {
+pub(crate) fn looking_at(making: &Making, reserves: impl Fn(usize) -> bool) -> (Book, u8) {
     let mut seen = making.clone();
     for (group, cents) in seen.reserves.iter_mut().enumerate() {
         *cents *= u64::from(reserves(group));
@@ -195,12 +198,17 @@ fn refused_book_stands(making: &Making) -> (Book, u8) {
 
 /// A version that trials must tell.
 pub(crate) const fn wrong(name: &'static str, make: Make) -> Wrong {
-    Wrong { name, make, by_demand_3: false }
+    Wrong { name, make, by_demand_3: false, by_same_payouts: false }
 }
 
 /// A version that trials, and demand 3 from listings, must each tell.
 pub(crate) const fn unbalanced(name: &'static str, make: Make) -> Wrong {
-    Wrong { name, make, by_demand_3: true }
+    Wrong { name, make, by_demand_3: true, by_same_payouts: false }
+}
+
+/// A version that trials and lists with the same payouts must each tell, and perhaps demand 3 too.
+pub(crate) const fn unequal(name: &'static str, by_demand_3: bool, make: Make) -> Wrong {
+    Wrong { name, make, by_demand_3, by_same_payouts: true }
 }
 
 pub const WRONG: [Wrong; 19] = [

@@ -90,7 +90,7 @@ impl Watch {
     fn accepted(&mut self, n: u64, Limits { participants, periods }: Limits) {
         let below = participants < MOST_PARTICIPANTS;
         self.counts.see_if(below && n == participants, Sight::NAtLimit);
-        self.counts.see_if(below && n + 1 == participants, Sight::NBelowLimit);
+        self.counts.see_if(below && n.checked_add(1) == Some(participants), Sight::NBelowLimit);
         self.counts.see_if(participants == 1, Sight::OneParticipant);
         self.counts.see_if(participants == MOST_PARTICIPANTS, Sight::MostParticipants);
         self.counts.see_if(periods == 1, Sight::OnePeriod);
