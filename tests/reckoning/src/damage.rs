@@ -3,13 +3,15 @@
 use crate::demand3;
 use crate::example_feeds;
 use crate::feeds;
-use crate::judge::{judge_listing, judge_trial};
-use crate::listing::listing;
+use crate::judge::{judge_trial, judge_within};
+use crate::limits::{Limits, DEMONSTRATION, MARKET};
+use crate::listing::listing_within;
 use crate::pairs;
 use crate::selftest::Report;
 use crate::trial;
 use crate::trials;
 use crate::trials_of_groups::{self, Named};
+use crate::trials_of_limits;
 use crate::trials_of_purses;
 use crate::trials_of_washups;
 
@@ -112,7 +114,7 @@ fn change_refusal(lines: &mut [String]) -> bool {
     raise(lines, "", 1, |words| is_entry(words) && words[1] == "8")
 }
 
-const OF_LISTING: [Damage; 14] = [
+const OF_LISTING: [Damage; 15] = [
     both("a payout changed by a cent", |l| raise(l, "pay ", 2, is_pay)),
     both("a payout given to the next participant", |l| raise(l, "pay ", 1, is_pay)),
     both("two payouts swapped", |l| swap_payouts(l)),
@@ -125,6 +127,7 @@ const OF_LISTING: [Damage; 14] = [
     both("money that came in refused", |l| refuse_money(l)),
     both("money that was refused accepted", |l| accept_refused(l, &["13", "14", "15"])),
     both("a washup that was refused accepted", |l| accept_refused(l, &["16"])),
+    by_text("an opening that was refused with 7 accepted", |l| accept_refused(l, &["7"])),
     both("an entry's number changed", |l| raise(l, "", 0, is_entry)),
     both("the header lost", |l| !l.remove(0).is_empty()),
 ];
@@ -148,13 +151,29 @@ fn damaged(right: &[u8], damage: &Damage) -> Option<Vec<u8>> {
     done.then(|| lines.iter().flat_map(|line| format!("{line}\n").into_bytes()).collect())
 }
 
+/// A feed by its name, and the limits of the book that it is listed in.
+struct Chosen {
+    name: String,
+    limits: Limits,
+    feed: Vec<u8>,
+    /// Whether demand 3 is put over its listings alone too.
+    example: bool,
+}
+
+/// The examples, those of a class in a demonstration book.
+fn chosen_examples() -> Vec<Chosen> {
+    let names = [("month-a", MARKET), ("purse", MARKET), ("washup", MARKET)];
+    let of_class = [("class", DEMONSTRATION), ("class-limits", DEMONSTRATION)];
+    let chosen = |(name, limits): (&str, Limits)| {
+        let feed = example_feeds::example(name).expect("a name that exists");
+        Chosen { name: name.to_string(), limits, feed, example: true }
+    };
+    names.into_iter().chain(of_class).map(chosen).collect()
+}
+
 /// Feeds whose last months were settled and paid.
-fn chosen_feeds() -> Vec<(String, Vec<u8>)> {
-    let mut chosen = vec![
-        ("month A".to_string(), feeds::month_a()),
-        ("purses".to_string(), example_feeds::purse().feed()),
-        ("washups".to_string(), example_feeds::washup().feed()),
-    ];
+fn chosen_feeds() -> Vec<Chosen> {
+    let mut chosen = chosen_examples();
     for (seed, kind) in [
         (2, "few"),
         (5, "hundreds"),
@@ -166,8 +185,14 @@ fn chosen_feeds() -> Vec<(String, Vec<u8>)> {
         (1, "washups"),
         (2, "washups"),
     ] {
-        chosen
-            .push((format!("{kind} {seed}"), feeds::feed(seed, kind).expect("a kind that exists")));
+        let feed = feeds::feed(seed, kind).expect("a kind that exists");
+        let (name, limits) = (format!("{kind} {seed}"), MARKET);
+        chosen.push(Chosen { name, limits, feed, example: false });
+    }
+    for seed in [1, 2] {
+        let feed = feeds::feed_within(DEMONSTRATION, seed, "full").expect("a kind that exists");
+        let (name, limits) = (format!("full {seed} of a demonstration"), DEMONSTRATION);
+        chosen.push(Chosen { name, limits, feed, example: false });
     }
     chosen
 }
@@ -176,27 +201,26 @@ fn chosen_feeds() -> Vec<(String, Vec<u8>)> {
 pub fn damage_listings(report: &mut Report) -> bool {
     let mut right_stands = true;
     let mut used = [0; OF_LISTING.len()];
-    let examples =
-        [feeds::month_a(), example_feeds::purse().feed(), example_feeds::washup().feed()];
-    for (name, feed) in chosen_feeds() {
-        let right = listing(&feed);
-        right_stands &= judge_listing(&feed, &right).is_ok();
+    for Chosen { name, limits, feed, example } in chosen_feeds() {
+        let right = listing_within(limits, &feed);
+        right_stands &= judge_within(limits, &feed, &right).is_ok();
         for (place, damage) in OF_LISTING.iter().enumerate() {
             let Some(found) = damaged(&right, damage) else {
                 continue;
             };
             used[place] += 1;
             let name = format!("listing of {name}: {}", damage.name);
-            report.take(&name, judge_listing(&feed, &found).err());
-            if damage.by_demand_3 && examples.contains(&feed) {
+            report.take(&name, judge_within(limits, &feed, &found).err());
+            if damage.by_demand_3 && example {
                 report.take(
                     &format!("{name}, by demand 3"),
-                    demand3::check_listing(&feed, &found).err(),
+                    demand3::check_within(limits, &feed, &found).err(),
                 );
             }
         }
         for (what, found) in ends_damaged(&right) {
-            report.take(&format!("listing of {name}: {what}"), judge_listing(&feed, &found).err());
+            let judged = judge_within(limits, &feed, &found).err();
+            report.take(&format!("listing of {name}: {what}"), judged);
         }
     }
     right_stands && used.iter().all(|&count| count > 0)
@@ -219,6 +243,7 @@ pub fn damage_trials(report: &mut Report) -> bool {
     chosen.extend((0..3).map(of_groups));
     chosen.extend(trials_of_purses::every_trial().take(3));
     chosen.extend(trials_of_washups::every_trial().take(3));
+    chosen.extend(trials_of_limits::every_trial().take(3));
     chosen.extend(
         pairs::pairs().into_iter().take(6).map(|pair| (format!("pair of {}", pair.of), pair.both)),
     );

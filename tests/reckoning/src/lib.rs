@@ -81,6 +81,7 @@ mod watch_of_lists;
 pub mod watch_of_purses;
 pub mod watch_of_washups;
 pub mod ways;
+pub mod workers;
 mod wrong;
 
 #[cfg(test)]

@@ -76,8 +76,10 @@ pub(crate) fn refused() -> Vec<(u64, Limits)> {
     all
 }
 
-/// Ways in which groups and reserves are outside their values.
-const OUTSIDE: [(&str, fn(&mut Making)); 3] = [
+/// What is outside its values, and how it comes to be.
+type Outside = (&'static str, fn(&mut Making));
+
+const OUTSIDE: [Outside; 3] = [
     ("a group outside", |with| with.groups[0] = 64),
     ("a reserve outside", |with| with.reserves[LAST] = MOST_RESERVE + 1),
     ("groups and reserves outside", |with| {

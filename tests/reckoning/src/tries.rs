@@ -27,6 +27,7 @@ use crate::versions_of_halves;
 use crate::versions_of_limits;
 use crate::versions_of_purses;
 use crate::versions_of_washups;
+use crate::workers;
 
 /// How many feeds from seeds demand 3 is put over, as wrong versions list them.
 const FEEDS: u64 = 20;
@@ -111,8 +112,9 @@ fn told_by_demand_3(limits: Limits, feeds: &[Named], wrong: &Wrong) -> Option<St
 
 fn try_versions(report: &mut Report, letter: char, versions: &[Wrong], trials: &[Named]) {
     let right: Vec<Vec<u8>> = trials.iter().map(|(_, calls)| trial::expected(calls)).collect();
-    for wrong in versions {
-        report.take(&format!("version of {letter}: {}", wrong.name), told(trials, &right, wrong));
+    let all_told = workers::for_each(versions, |wrong| told(trials, &right, wrong));
+    for (wrong, told) in versions.iter().zip(all_told) {
+        report.take(&format!("version of {letter}: {}", wrong.name), told);
     }
 }
 

@@ -6,10 +6,8 @@ use crate::codec::LONGEST_ENTRY;
 use crate::judge::{first_difference, judge_listing};
 use crate::limits::MARKET;
 use crate::listing::listing;
+use crate::workers;
 use std::collections::BTreeSet;
-use std::iter;
-use std::sync::atomic::{AtomicUsize, Ordering};
-use std::thread;
 
 /// A feed of n = 5, so that some participants do not exist.
 const SEED: u64 = 3;
@@ -25,23 +23,6 @@ pub struct Cuts {
     block_ends: Vec<usize>,
     /// Every byte about the ends of the blocks.
     places: Vec<usize>,
-}
-
-/// What a judgement gives for each place, with a thread for each processor.
-fn judge_each<T: Send>(places: &[usize], judge: impl Fn(usize) -> T + Sync) -> Vec<T> {
-    let next = AtomicUsize::new(0);
-    let judge_some = || {
-        let numbers = iter::repeat_with(|| next.fetch_add(1, Ordering::Relaxed));
-        let judged = |number| places.get(number).map(|&place| (number, judge(place)));
-        numbers.map_while(judged).collect::<Vec<_>>()
-    };
-    let processors = thread::available_parallelism().map_or(1, usize::from);
-    let mut all: Vec<_> = thread::scope(|scope| {
-        let threads: Vec<_> = (0..processors).map(|_| scope.spawn(judge_some)).collect();
-        threads.into_iter().flat_map(|thread| thread.join().expect("a judge ends")).collect()
-    });
-    all.sort_by_key(|&(number, _)| number);
-    all.into_iter().map(|(_, judged)| judged).collect()
 }
 
 impl Cuts {
@@ -122,14 +103,14 @@ impl Cuts {
 /// Holds a program to the reckoning over feeds cut about block ends.
 pub fn block_ends(cuts: &Cuts, run: &impl Run) -> bool {
     let mut runs = Runs::new("block ends");
-    let ended = judge_each(&cuts.places, |place| cuts.judge_ended(place, run));
+    let ended = workers::for_each(&cuts.places, |&place| cuts.judge_ended(place, run));
     for (place, judged) in cuts.places.iter().zip(ended) {
         runs.take(&format!("feed long seed {SEED} ended after byte {place}"), judged);
     }
     let ended = runs.runs;
     let (reckoned, mut parts) = (listing(&cuts.feed), BTreeSet::new());
     let places = [&cuts.places[..], &cuts.first_reads()].concat();
-    let read = judge_each(&places, |place| cuts.judge_read(place, &reckoned, run));
+    let read = workers::for_each(&places, |&place| cuts.judge_read(place, &reckoned, run));
     for (place, judged) in places.iter().zip(read) {
         let name = format!("feed long seed {SEED} with a read up to byte {place}");
         parts.extend(runs.take(&name, judged).unwrap_or_default());
