@@ -31,6 +31,8 @@ use crate::workers;
 
 /// How many feeds from seeds demand 3 is put over, as wrong versions list them.
 const FEEDS: u64 = 20;
+/// And how many whose n passes the limit, one in four just by one.
+const FEEDS_OF_REFUSED_N: u64 = 8;
 
 /// How many trials tell a wrong version from the right one, and the first of them; nothing if
 /// none does. The right lines stand beside the trials.
@@ -83,9 +85,12 @@ fn pairs_of(sorts: &'static [&'static str]) -> impl Iterator<Item = Named> {
 /// The feeds that demand 3 is put over as wrong versions of 02, f, list them: the cases, and some from
 /// seeds, aimed by the wrong version's demonstration book.
 fn feeds_with_limits(make: Make) -> Vec<Named> {
-    let feed = |seed| feeds::feed_by((DEMONSTRATION, make), seed, "full");
-    let feed = |seed| feed(seed).expect("a kind that exists");
-    let seeds = (0..FEEDS).map(|seed| (format!("feed full seed {seed}"), feed(seed)));
+    let full = (0..FEEDS).map(|seed| (seed, "full"));
+    let refused_n = (0..FEEDS_OF_REFUSED_N).map(|seed| (seed, "refused-n"));
+    let seeds = full.chain(refused_n).map(|(seed, kind)| {
+        let feed = feeds::feed_by((DEMONSTRATION, make), seed, kind).expect("a kind that exists");
+        (format!("feed {kind} seed {seed}"), feed)
+    });
     cases_of_limits::feeds().into_iter().chain(seeds).collect()
 }
 
