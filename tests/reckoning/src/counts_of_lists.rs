@@ -62,9 +62,10 @@ impl Sight {
         }
     }
 
-    /// Whether feeds can show it: their books have groups of one and no reserves.
+    /// Whether feeds can show it: their books have groups of one and no reserves, and they lend no
+    /// payout words.
     pub fn is_of_feeds(self) -> bool {
-        !matches!(self, GroupsBeyond | ReservesBeyond)
+        !matches!(self, GroupsBeyond | ReservesBeyond | WordsBeyond)
     }
 }
 

@@ -82,15 +82,22 @@ pub struct Listed {
 
 impl Listed {
     pub fn new(of: &'static str, limits: Limits, least: Least) -> Listed {
-        let (every_n, answers) = (BTreeSet::new(), [0; NUMBERS]);
-        let [feeds, months, late, left, with_arrears] = [0; 5];
-        let (halves, draws, washups, openings) = Default::default();
-        #[rustfmt::skip]
-        let listed = Listed {
-            of, limits, least, feeds, every_n, months, late, left, with_arrears, answers, halves,
-            draws, washups, openings,
-        };
-        listed
+        Listed {
+            of,
+            limits,
+            least,
+            feeds: 0,
+            every_n: BTreeSet::new(),
+            months: 0,
+            late: 0,
+            left: 0,
+            with_arrears: 0,
+            answers: [0; NUMBERS],
+            halves: Halves::default(),
+            draws: Draws::default(),
+            washups: Washups::default(),
+            openings: Openings::default(),
+        }
     }
 
     /// Lists a feed by the program at a path, and holds it to the reckoning.

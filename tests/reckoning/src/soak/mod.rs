@@ -3,12 +3,13 @@
 mod early_money;
 mod filling;
 mod memory;
+mod plan;
 mod rotation;
 mod streams;
 #[cfg(test)]
 mod tests;
 
-pub use rotation::Plan;
+pub use plan::Plan;
 
 use crate::counts_of_washups;
 use crate::draws::Sight;

@@ -3,11 +3,11 @@
 //! rotation.
 
 use super::filling;
+use super::plan::Plan;
 use crate::aim::{Aim, Manner, Scale};
 use crate::codec::{Entry, Field, OPEN, RECEIPT, SETTLE};
 use crate::demand3::Count;
 use crate::halves::Half;
-use crate::limits::{Limits, MOST_PERIODS};
 use crate::making::Making;
 use crate::period::Stage;
 use crate::random::Random;
@@ -15,13 +15,6 @@ use crate::refusals::ACCEPTED;
 use crate::watch_of_purses;
 use crate::watch_of_washups;
 use std::collections::BTreeMap;
-
-/// Ages of a period in hundredths of a month, where the period limit is twelve.
-const NOTICE_DUE: u64 = 300;
-/// The last arrears are paid right before the twelfth month after the opening.
-const LEAVING_DUE: u64 = 1_190;
-/// Where the limit is small a period is still before its notice for a month, so that there is one.
-const A_MONTH: u64 = 100;
 
 /// So many entries, money for purses, come before the first opening.
 const EARLIEST: u64 = 3;
@@ -36,41 +29,6 @@ const RECOVERING: u64 = 4;
 /// The first months of so many are calm: every payer pays all it can.
 const ERA: u64 = 16;
 const CALM: u64 = 3;
-
-/// What a feed is made by.
-#[derive(Clone, Copy, Debug)]
-pub struct Plan {
-    /// Those of the book.
-    pub limits: Limits,
-    pub n: u8,
-    pub entries: u64,
-    pub months: u64,
-}
-
-impl Plan {
-    /// From one opening to the next.
-    pub(super) fn entries_of_a_month(&self) -> u64 {
-        (self.entries / self.months.max(1)).max(1)
-    }
-
-    /// An age where the period limit is twelve, as it is where that is the plan's.
-    fn age(&self, of_twelve: u64) -> u64 {
-        of_twelve * self.limits.periods / MOST_PERIODS
-    }
-
-    pub(super) fn notice_due(&self) -> u64 {
-        self.age(NOTICE_DUE).max(A_MONTH)
-    }
-
-    /// After the notice comes a third of the time before it.
-    fn settle_due(&self) -> u64 {
-        self.notice_due() * 4 / 3
-    }
-
-    fn leaving_due(&self) -> u64 {
-        self.age(LEAVING_DUE)
-    }
-}
 
 /// What the feed has come to so far.
 #[derive(Clone, Debug, Default)]

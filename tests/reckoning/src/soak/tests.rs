@@ -1,6 +1,7 @@
 //! The soak against listings in this process, right ones and wrong ones.
 
-use super::rotation::{Plan, Reach, Rotation};
+use super::plan::Plan;
+use super::rotation::{Reach, Rotation};
 use super::streams::{hold, Compared, Watch};
 use super::{covered, NOT_REQUIRED, SEED, WASHUPS_NOT_REQUIRED};
 use crate::counts_of_washups;
