@@ -4,11 +4,12 @@
 //! Of these refusals 5 cannot come from a feed, since the listing lends enough words.
 
 use crate::feed::N;
-use reckoning::book::{Book, MOST_PERIODS};
+use reckoning::book::Book;
 use reckoning::codec::Entry;
+use reckoning::limits::MOST_PERIODS;
 use reckoning::random::Random;
 use reckoning::refusals::{
-    ACCEPTED, NOT_ABOVE_HIGHEST, N_REFUSED, PERIOD_NOT_IN_BOOK, TWELVE_PERIODS,
+    ACCEPTED, NOT_ABOVE_HIGHEST, N_REFUSED, PERIODS_AT_LIMIT, PERIOD_NOT_IN_BOOK,
 };
 
 const ENTRIES: usize = 1_000_000;
@@ -90,7 +91,7 @@ fn not_above() -> Alike {
 
 fn full() -> Alike {
     let last = MOST_PERIODS as u32;
-    let feed = Alike::new("refused with 7", N, TWELVE_PERIODS).opens(1..last + 1);
+    let feed = Alike::new("refused with 7", N, PERIODS_AT_LIMIT).opens(1..last + 1);
     feed.up_to(ENTRIES, |random| Entry::open(last + 1 + random.below(1_000) as u32))
 }
 
@@ -100,7 +101,7 @@ fn not_in_book() -> Alike {
         let period = 2 * random.below(16) as u32 + 1;
         naming(random, period)
     };
-    let even = |place: usize| 2 * place as u32;
+    let even = |place: u64| 2 * place as u32;
     let feed = Alike::new("refused with 8", N, PERIOD_NOT_IN_BOOK).opens((1..2).map(even));
     let nearly_full = feed.up_to(ENTRIES / 2, odd).opens((2..MOST_PERIODS).map(even));
     nearly_full.up_to(ENTRIES, odd)
