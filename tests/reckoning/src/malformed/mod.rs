@@ -156,7 +156,8 @@ fn judge_malformed(feeds: &Feeds, program: &Program<impl Run>) -> bool {
 }
 
 /// One malformed feed of so many is put to the demonstration too, but of random bytes at least so many.
-const SHARE: usize = 16;
+/// The number is odd, so that every value of a byte comes.
+const SHARE: usize = 17;
 const LEAST_RANDOM: usize = 2_000;
 
 impl Feeds {

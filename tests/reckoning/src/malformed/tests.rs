@@ -54,6 +54,14 @@ fn a_right_listing_stands_in_its_own_book_alone() {
 }
 
 #[test]
+fn a_right_demonstration_stands_over_its_share() {
+    let (every_byte, every_cut) = (bytes::every_byte(), bytes::every_cut());
+    let share = Feeds { every_byte, every_cut, random: FEEDS }.share();
+    let right = |feed: &[u8]| Ok(listing_within(DEMONSTRATION, feed));
+    assert!(judge_malformed(&share, &by(DEMONSTRATION, right)));
+}
+
+#[test]
 fn each_wrong_answer_to_bytes_is_told() {
     for (from, to) in [(" 1 0 ", " 2 0 "), (" 2 0 ", " 3 0 "), (" 3 0 ", " 0 0 ")] {
         let hit = |feed: &[u8]| String::from_utf8(listing(feed)).unwrap().contains(from);
