@@ -23,8 +23,8 @@ const LEAST: Least = Least { feeds: 500, months: 20_000 };
 const LEAST_OF_DEMONSTRATION: Least = Least { feeds: 300, months: 5_000 };
 /// One feed of so many of each kind is aimed by a demonstration book.
 const DEMONSTRATED: u64 = 3;
-/// And so many of each kind, aimed by the market's book, are put to it too, where they are short: most
-/// of their entries are refused.
+/// And so many of each kind, aimed by the market's book, are put to it too, where they are short: many of
+/// their entries are refused.
 const OF_MARKET: u64 = 2;
 const SHORT: u64 = 10_000;
 

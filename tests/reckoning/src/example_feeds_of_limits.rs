@@ -9,7 +9,8 @@ use crate::refusals::{NOT_ABOVE_HIGHEST, N_REFUSED, PERIODS_AT_LIMIT};
 /// by 1: 200; to 2: tier 1 100, tier 5 200, to 3: tier 5 200. Payer 0 has s = 300 and g = 400, so that
 /// retention is 150 for 2 and for 3; payable are 300 and 200. Payer 1 pays 50, and its arrears are 150.
 /// Of the 350 there, tier 1 takes 100 and tier 5 250 of 400, 125 each. Period 2 is energy of 230 cents,
-/// from 0 to 3; payer 0 has sent 250 early. Period 3 has 92 cents, 322 less 230: up by 1, down to 3.
+/// from 0 to 3; payer 0 has sent 250 early. Period 3 has 92 cents, 322 less 230: owing by 1, where the
+/// quantity went up, and owing to 3, where it went down.
 /// Then three periods are in the book. 75 late in period 1 are 37 each, and a cent is held; the other 75
 /// and the cent are 38 each. Period 2 draws 230 of the 250, and 20 stay.
 pub fn class() -> Case<4> {

@@ -19,6 +19,8 @@ const fn kind(name: &'static str, feeds: u64, entries: u64) -> Kind {
     Kind { name, feeds, entries }
 }
 
+/// Numbers of participants and periods are those of a market book; in a book of other limits they stand
+/// as near to these.
 pub const KINDS: [Kind; 16] = [
     // n of 1 to 6 and few cents.
     kind("few", 150, 600),

@@ -120,8 +120,8 @@ fn openings() -> Vec<u8> {
         .collect()
 }
 
-/// The book made so takes the place of one with money in it, and gives way to market books by `B` and
-/// by `G`.
+/// The book made so takes the place of one with money in it, gives way to a market book by `B`, comes
+/// again, and gives way to what `G` makes of the same n, groups and reserves.
 pub fn trial(case: &Case) -> Vec<u8> {
     let mut bytes = calls::book(N);
     for entry in calls::month_a_to_settle(7) {

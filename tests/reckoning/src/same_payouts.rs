@@ -121,7 +121,7 @@ impl List {
     }
 }
 
-/// The numbers of a line before its payout words: the answer, the rounds and the cents held.
+/// What stands in a line before its payout words: `apply`, the answer, the rounds and the cents held.
 const BEFORE_WORDS: usize = 4;
 
 fn words(line: &str) -> Vec<&str> {

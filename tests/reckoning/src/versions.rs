@@ -167,11 +167,16 @@ fn reserve_at_the_bound_refused(making: &Making) -> (Book, u8) {
 
 /// The same making with reserves of 0 where they are not looked at.
 pub(crate) fn looking_at(making: &Making, reserves: impl Fn(usize) -> bool) -> (Book, u8) {
+    Book::make(&with_reserves(making, reserves))
+}
+
+/// The making with the reserves of these groups alone.
+pub(crate) fn with_reserves(making: &Making, stands: impl Fn(usize) -> bool) -> Making {
     let mut seen = making.clone();
     for (group, cents) in seen.reserves.iter_mut().enumerate() {
-        *cents *= u64::from(reserves(group));
+        *cents *= u64::from(stands(group));
     }
-    Book::make(&seen)
+    seen
 }
 
 fn memberless_reserves_not_looked_at(making: &Making) -> (Book, u8) {

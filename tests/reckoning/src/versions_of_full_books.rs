@@ -9,7 +9,7 @@ use crate::month::Sums;
 use crate::period::{Period, Stage};
 use crate::refusals::*;
 use crate::retention::{g_of, largest_gifts, retention, s_of};
-use crate::versions::{applying, unbalanced, unequal, with_ways, wrong, Wrong};
+use crate::versions::{applying, unbalanced, unequal, with_reserves, with_ways, wrong, Wrong};
 use crate::washup::below;
 
 /// The right book, but for when an opening is 7.
@@ -105,11 +105,7 @@ fn groups_beyond_left_out(sums: &Sums, making: &Making) -> Vec<u128> {
 }
 
 fn reserves_beyond_left_out(sums: &Sums, making: &Making) -> Vec<u128> {
-    let mut seen = making.clone();
-    for (group, cents) in seen.reserves.iter_mut().enumerate() {
-        *cents *= u64::from(is_within(making, group));
-    }
-    retention(sums, &seen)
+    retention(sums, &with_reserves(making, |group| is_within(making, group)))
 }
 
 /// Payout words from n on are set to 0, up to the participant limit.

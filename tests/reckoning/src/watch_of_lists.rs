@@ -24,12 +24,11 @@ pub struct Watch {
 impl Watch {
     pub fn new(making: &Making) -> Watch {
         let most = making.limits.participants as u8;
-        let beyond = |group: &&u8| **group >= most;
+        let beyond: Vec<u8> = making.numbers().iter().copied().filter(|&it| it >= most).collect();
         let with_reserve = |group: &u8| making.reserves[usize::from(*group)] > 0;
         let mut seen = Lists { lists: 1, ..Lists::default() };
-        let mut groups = making.numbers().iter().filter(beyond);
-        seen.see_if(making.numbers().iter().any(|group| *group >= most), Sight::GroupsBeyond);
-        seen.see_if(groups.any(with_reserve), Sight::ReservesBeyond);
+        seen.see_if(!beyond.is_empty(), Sight::GroupsBeyond);
+        seen.see_if(beyond.iter().any(with_reserve), Sight::ReservesBeyond);
         Watch { seen, found: None, left: false }
     }
 

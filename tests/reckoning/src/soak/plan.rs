@@ -26,7 +26,7 @@ impl Plan {
         (self.entries / self.months.max(1)).max(1)
     }
 
-    /// An age where the period limit is twelve, as it is where that is the plan's.
+    /// What an age in a book of twelve periods comes to in one of the plan's period limit.
     fn age(&self, of_twelve: u64) -> u64 {
         of_twelve * self.limits.periods / MOST_PERIODS
     }
