@@ -13,6 +13,7 @@ use crate::refusals::ACCEPTED;
 use crate::watch_of_limits::{self, Call};
 use crate::watch_of_purses;
 use crate::watch_of_washups;
+use std::fmt::{Display, Write as _};
 use std::io::{self, Read, Write};
 
 /// Each payout word before a call.
@@ -53,10 +54,9 @@ fn take_entry(input: &mut impl Read) -> Option<Entry> {
     Some(entry)
 }
 
-fn with_numbers<T: ToString>(mut line: String, numbers: impl IntoIterator<Item = T>) -> String {
+fn with_numbers<T: Display>(mut line: String, numbers: impl IntoIterator<Item = T>) -> String {
     for number in numbers {
-        line.push(' ');
-        line.push_str(&number.to_string());
+        write!(line, " {number}").expect("a string takes every number");
     }
     line
 }
