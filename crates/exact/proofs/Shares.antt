@@ -1,13 +1,13 @@
--- A row's shares of an amount, in proportion to weights: rounded down they sum to at most the amount, rounded up to at
--- least it, and each rounding is worth less than a cent.
-use mathlib.Core.Path.{_≡_, refl, ap, _∙_}
+-- A row's shares of an amount, in proportion to weights, rounded up: they sum to at least the amount, and each rounding is worth
+-- less than a cent.
+use mathlib.Core.Path.{_≡_, refl, ap}
 use mathlib.Core.Logic.{⊎-elim}
-use Prim.Native.Nat.{ℕ, _+_, _-_, _*_, _/_, _≤_, _<_, min}
-use native.Mathlib.Nat.{div-mul-le-self, lt-div-mul-add, add-mul, mul-one, le-of-mul-le-mul-right, lt-of-mul-lt-mul-right, div-le-of-le-mul, mul-le-mul-left, mul-comm, mul-zero, eq-zero-or-pos}
+use Prim.Native.Nat.{ℕ, _+_, _-_, _*_, _≤_, _<_, min}
+use native.Mathlib.Nat.{add-mul, le-of-mul-le-mul-right, lt-of-mul-lt-mul-right, mul-zero, eq-zero-or-pos}
 use native.Mathlib.Omega.{arith}
 use Rattle.exact.specs.Rows.{sum}
 use Rattle.exact.specs.Division.{ceilDiv}
-use Rattle.exact.proofs.RowLaws.{sum-mono, sum-add, sum-const, sum-times, sum-term, sum-some}
+use Rattle.exact.proofs.RowLaws.{sum-mono, sum-add, sum-times, sum-term}
 use Rattle.exact.proofs.Ceiling.{ceil-ge, ceil-lt, ceil-zero}
 
 -- what is given of an amount, all but at most `slack` of it
@@ -19,39 +19,6 @@ pub record Near (given amount slack : ℕ) : Type 0 where
 sum-slack : (f g k : ℕ → ℕ) (c n : ℕ) → ((i : ℕ) → i < n → f i ≤ g i + k i * c) → sum f n ≤ sum g n + sum k n * c
 sum-slack f g k c n h =
     omega (arith, sum-mono f (λ i. g i + k i * c) n h, sum-add g (λ i. k i * c) n, sum-times k c n)
-
-module _ (w : ℕ → ℕ) (money n : ℕ) (some : 0 < sum w n) where
-  -- 01's share of a tier that is not met: at most the weight
-  pub floor-le-weight : money ≤ sum w n → (i : ℕ) → w i * money / sum w n ≤ w i
-  floor-le-weight h i =
-      div-le-of-le-mul (sum w n) (omega (arith, mul-le-mul-left (w i) h, mul-comm (w i) (sum w n)))
-
-  -- rounded down, the shares leave at most n - 1 of the money over
-  pub floor-sum : Near (sum (λ i. w i * money / sum w n) n) money (n - 1)
-  floor-sum =
-      let high : sum (λ i. w i * money / sum w n) n ≤ money =
-      le-of-mul-le-mul-right
-      (omega (
-        arith,
-        sum-mono (λ i. w i * money / sum w n * sum w n) (λ i. w i * money) n (λ i _. div-mul-le-self _ _),
-        sum-times (λ i. w i * money / sum w n) (sum w n) n,
-        sum-times w money n,
-      ))
-      some in
-      let low : money < sum (λ i. w i * money / sum w n) n + n =
-      lt-of-mul-lt-mul-right (sum w n) (omega (
-        arith,
-        sum-slack (λ i. w i * money + 1) (λ i. w i * money / sum w n * sum w n) (λ i. 1) (sum w n) n
-            (λ i _. omega (arith, lt-div-mul-add {a = w i * money} some)),
-        sum-add (λ i. w i * money) (λ i. 1) n,
-        sum-const 1 n,
-        ap (λ (k : ℕ). k * sum w n) (sum-const 1 n ∙ mul-one n),
-        sum-some w n some,
-        sum-times (λ i. w i * money / sum w n) (sum w n) n,
-        sum-times w money n,
-        add-mul (sum (λ i. w i * money / sum w n) n) n (sum w n),
-      )) in
-      omega arith
 
 module _ (w : ℕ → ℕ) (d n : ℕ) (some : 0 < sum w n) where
   -- how many weights are not 0

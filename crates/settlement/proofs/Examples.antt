@@ -1,4 +1,5 @@
--- The ten starred examples, those of retention over groups and of the clause's paragraphs come out by computation.
+-- The ten starred examples, those of retention over groups, of the clause's paragraphs and of shares to the last cent come out by
+-- computation.
 use mathlib.Core.Path.{refl}
 use Rattle.exact.specs.Rows.{sum, largest, table}
 use Rattle.exact.specs.Division.{ceilDiv}
@@ -7,6 +8,7 @@ use Rattle.settlement.specs.Month.{overTiers}
 use Rattle.settlement.specs.Notice.{gives, shortfall, othersTier5, retention, payable, fullClaim}
 use Rattle.settlement.specs.Groups.{groupSum, outsideSum, shortfallWithReserve, groupShortfall, outsideTier5, groupRetention}
 use Rattle.settlement.specs.Claims.{unpaid, setOff, arrears, claim}
+use Rattle.settlement.specs.Sharing.{before, rank, leftoverCent, floorShare, remainder, leftover, shareByWeight}
 use Rattle.settlement.specs.Tiers.{share, leftFor, tierShare, met}
 use Rattle.settlement.specs.Rounds.{negativesAtZero, weight, loss, round, run, spread}
 use Rattle.settlement.specs.Settling.{available, revised, scaledAbove, scaledBelow, deficit, spent, rounds, paid, held}
@@ -14,9 +16,10 @@ use Rattle.settlement.specs.Late.{fill, shortage, latePayment}
 use Rattle.settlement.specs.Examples.{Examples}
 use Rattle.settlement.specs.GroupExamples.{GroupExamples}
 use Rattle.settlement.specs.ClauseExamples.{ClauseExamples}
+use Rattle.settlement.specs.SharingExamples.{SharingExamples}
 
 pub examples : Examples
-unfolding sum largest table ceilDiv energyCents overTiers gives shortfall othersTier5 retention payable fullClaim unpaid setOff arrears claim share leftFor tierShare met weight loss round run spread available revised scaledAbove scaledBelow deficit spent rounds paid held fill shortage latePayment
+unfolding sum largest table ceilDiv energyCents overTiers gives shortfall othersTier5 retention payable fullClaim unpaid setOff arrears claim before rank leftoverCent floorShare remainder leftover shareByWeight share leftFor tierShare met weight loss round run spread available revised scaledAbove scaledBelow deficit spent rounds paid held fill shortage latePayment
 examples = record {
   energy-half-up = refl;
   energy-down = refl;
@@ -46,7 +49,7 @@ group-examples = record {
 }
 
 pub clause-examples : ClauseExamples
-unfolding sum largest table ceilDiv overTiers gives shortfall othersTier5 retention payable fullClaim unpaid setOff arrears claim share leftFor tierShare met negativesAtZero weight loss round run spread available revised scaledAbove scaledBelow
+unfolding sum largest table ceilDiv overTiers gives shortfall othersTier5 retention payable fullClaim unpaid setOff arrears claim before rank leftoverCent floorShare remainder leftover shareByWeight share leftFor tierShare met negativesAtZero weight loss round run spread available revised scaledAbove scaledBelow
 clause-examples = record {
   scaled-b = (refl, refl);
   revised-b = refl;
@@ -63,4 +66,19 @@ clause-examples = record {
   lost-rounding = refl;
   again-rounding = refl;
   end-rounding = (refl, refl);
+}
+
+pub sharing-examples : SharingExamples
+unfolding sum largest table ceilDiv overTiers gives shortfall othersTier5 retention payable fullClaim unpaid setOff arrears claim before rank leftoverCent floorShare remainder leftover shareByWeight share leftFor tierShare met weight loss round run spread available revised scaledAbove scaledBelow deficit spent paid held fill shortage latePayment
+sharing-examples = record {
+  tier-5-a = (refl, refl, refl);
+  revised-a = refl;
+  last-a = (refl, refl);
+  equal = refl;
+  cut = (refl, refl);
+  moved = refl;
+  without = (refl, refl);
+  but-one = refl;
+  all = refl;
+  nothing = refl;
 }

@@ -7,11 +7,10 @@ use native.Mathlib.Omega.{arith}
 use Rattle.exact.specs.Rows.{sum}
 use Rattle.exact.proofs.Cases.{le-or-lt}
 use Rattle.exact.proofs.RowLaws.{sum-none, sum-suc, sum-cong, sum-mono, sum-add, sum-tail, sum-part}
-use Rattle.exact.proofs.Shares.{Near}
 use Rattle.settlement.specs.Month.{tiers, overTiers}
 use Rattle.settlement.specs.Tiers.{tierShare, met}
 use Rattle.settlement.specs.Late.{fill, tiersOf, shortage, latePayment}
-use Rattle.settlement.proofs.TierLaws.{wantedBefore, wanted-mono, wanted-all, tier-met, tier-after, tier-share-le, met-near}
+use Rattle.settlement.proofs.TierLaws.{wantedBefore, wanted-mono, wanted-all, tier-met, tier-after, tier-share-le, met-exact}
 
 -- x cents have in the tiers before k what these take of them
 pub fill-sum : (o : ℕ → ℕ) (x k : ℕ) → sum (fill o x) k ≡ min x (sum o k)
@@ -115,10 +114,10 @@ module _ (to : ℕ → ℕ → ℕ) (claim paid : ℕ → ℕ) where
         sum-cong (λ i. overTiers short i + paid i) claim n (λ i h. omega (arith, shortage-sum i (under i h) tiers, fit i h, under i h)),
       )
 
-      -- all but at most n - 1 cents of the money is paid
-      pub late-near : Near (sum pay n) money (n - 1)
+      -- all of the money is paid
+      pub late-exact : sum pay n ≡ money
       unfolding latePayment
-      late-near = met-near n short money (omega (arith, wanted))
+      late-exact = met-exact n short money (omega (arith, wanted))
 
       pub late-le : (i : ℕ) → i < n → paid i + pay i ≤ claim i
       unfolding latePayment met overTiers
@@ -131,7 +130,7 @@ module _ (to : ℕ → ℕ → ℕ) (claim paid : ℕ → ℕ) where
           omega (arith, got-met i h (under i h) tiers (omega (arith, wanted, wanted-all n short)), shortage-sum i (under i h) tiers, fit i h, under i h)
 
       pub late-open : ((i : ℕ) → i < n → paid i + pay i ≡ claim i) → remain ≡ 0
-      late-open e = omega (arith, even, late-near, sum-cong (λ i. paid i + pay i) claim n e, sum-add paid pay n)
+      late-open e = omega (arith, even, late-exact, sum-cong (λ i. paid i + pay i) claim n e, sum-add paid pay n)
 
       -- where money reaches tier t of some owner, no owner has a shortage in a tier before t
       pub tiers-in-order : (t i : ℕ) → t < tiers → i < n → fill (tiersOf to i) (paid i) t < fill (tiersOf to i) (paid i + pay i) t

@@ -9,10 +9,13 @@ pub use Rattle.settlement.proofs.GroupLaws.{group-within, reserve-withi
 pub use Rattle.settlement.proofs.NoticeLaws.{full-max, full-balance, retained-le-full, full-le, payable-le, full-total}
 -- step 1
 pub use Rattle.settlement.proofs.ClaimLaws.{set-off-le, unpaid-exact, arrears-exact, claim-exact, claim-le, arrears-le, claim-balance, claim-total, claim-cong, arrears-cong}
+-- an amount shared by weights to the last cent
+pub use Rattle.settlement.proofs.SharingLaws.{shares-are-exact}
+pub use Rattle.settlement.proofs.Renumbering.{order-among-equals-alone}
 -- steps 2 to 5
-pub use Rattle.settlement.proofs.SettleLaws.{available-exact, tierRest, tier-rest-le, revised-le, revised-total, revised-all, scaled-le-claim, scaled-le-revised}
-pub use Rattle.settlement.proofs.SettleLaws.{paid-le, paid-near, paid-full, rounds-le, rounds-none, held-cases, held-exact, held-le}
+pub use Rattle.settlement.proofs.SettleLaws.{available-exact, revised-le, revised-total, revised-all, scaled-le-claim, scaled-le-revised}
+pub use Rattle.settlement.proofs.SettleLaws.{paid-le, paid-near, paid-full, rounds-le, rounds-none, held-exact, held-le}
 pub use Rattle.settlement.proofs.SettleLaws.{negatives-set-to-zero}
 pub use Rattle.settlement.proofs.EnoughRounds.{rounds-suffice, settlement-ends}
 -- late money
-pub use Rattle.settlement.proofs.LateLaws.{fill-sum, fill-mono, shortage-cong, shortage-sum, paid-through, pay, late-near, late-le, late-full, late-open, tiers-in-order}
+pub use Rattle.settlement.proofs.LateLaws.{fill-sum, fill-mono, shortage-cong, shortage-sum, paid-through, pay, late-exact, late-le, late-full, late-open, tiers-in-order}

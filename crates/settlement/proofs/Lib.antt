@@ -4,6 +4,9 @@ mod RetentionLaws
 mod GroupLaws
 mod NoticeLaws
 mod ClaimLaws
+mod Ranks
+mod SharingLaws
+mod Renumbering
 mod TierLaws
 mod LossLaws
 mod RoundLaws

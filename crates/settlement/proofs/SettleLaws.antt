@@ -1,8 +1,7 @@
 -- Laws of steps 2 to 5: what is paid is at most the claim, and all but a few cents of what was received is paid.
 use mathlib.Core.Path.{_≡_, refl, ap, _∙_}
-use mathlib.Core.Logic.{_⊎_, inl, inr, ⊎-elim}
-use Prim.Native.Nat.{ℕ, _+_, _-_, _*_, _≤_, _<_}
-use native.Mathlib.Nat.{eq-zero-or-pos, pos-of-ne-zero}
+use Prim.Native.Nat.{ℕ, _+_, _-_, _≤_, _<_}
+use native.Mathlib.Nat.{pos-of-ne-zero}
 use native.Mathlib.Omega.{arith}
 use Rattle.exact.specs.Rows.{sum}
 use Rattle.exact.proofs.Cases.{cases-eq}
@@ -11,10 +10,10 @@ use Rattle.exact.proofs.Shares.{Near}
 use Rattle.settlement.specs.Month.{Month, owingTo}
 use Rattle.settlement.specs.Notice.{Retained, payable}
 use Rattle.settlement.specs.Claims.{arrears, claim}
-use Rattle.settlement.specs.Rounds.{Standing, start, negativesAtZero, spread}
+use Rattle.settlement.specs.Rounds.{Standing, start, negativesAtZero}
 use Rattle.settlement.specs.Settling.{available, revised, scaledAbove, scaledBelow, deficit, spent, rounds, paid, held, NegativesSetToZero}
 use Rattle.settlement.proofs.ClaimLaws.{claim-le, claim-total, arrears-total-le}
-use Rattle.settlement.proofs.TierLaws.{met-le, met-all, met-near}
+use Rattle.settlement.proofs.TierLaws.{met-le, met-all, met-exact}
 use Rattle.settlement.proofs.RoundLaws.{Backed, spread-le, spread-none, spread-ended, spread-rounds}
 
 pub negatives-set-to-zero : NegativesSetToZero
@@ -28,21 +27,10 @@ module _ (m : Month) (retained received : ℕ → ℕ) (sound : Retained m retai
   unfolding revised
   revised-le i = met-le (m .n) (m .to) (available m retained received) i
 
-  -- the rest of the one tier that is not met
-  unfoldable pub tierRest : ℕ
-  tierRest = available m retained received - sum (revised m retained received) (m .n)
-
-  revised-near : Near (sum (revised m retained received) (m .n)) (available m retained received) (m .n - 1)
+  -- revised amounts sum to the available money
+  pub revised-total : sum (revised m retained received) (m .n) ≡ available m retained received
   unfolding revised available
-  revised-near = met-near (m .n) (m .to) (available m retained received) (omega arith)
-
-  pub tier-rest-le : tierRest ≤ m .n - 1
-  unfolding tierRest
-  tier-rest-le = omega (arith, revised-near)
-
-  pub revised-total : sum (revised m retained received) (m .n) + tierRest ≡ available m retained received
-  unfolding tierRest
-  revised-total = omega (arith, revised-near)
+  revised-total = met-exact (m .n) (m .to) (available m retained received) (omega arith)
 
   -- a positive scaled amount is at most the claim, and at most the revised amount
   pub scaled-le-claim : (i : ℕ) → scaledAbove m retained received i ≤ claim m retained received i
@@ -112,8 +100,8 @@ module _ (m : Month) (retained received : ℕ → ℕ) (sound : Retained m retai
     unfolding available
     available-exact = omega (arith, arrears-total-le m retained received sound)
 
-    -- held money: the rest of a tier, and at most n - 1 by the rounding up of the rounds
-    pub paid-near : Near (sum (paid m retained received) (m .n)) (sum received (m .n)) (tierRest + (m .n - 1))
+    -- held money: at most n - 1 cents, by the rounding up of the rounds
+    pub paid-near : Near (sum (paid m retained received) (m .n)) (sum received (m .n)) (m .n - 1)
     unfolding paid spent
     paid-near = omega (
       arith,
@@ -124,25 +112,11 @@ module _ (m : Month) (retained received : ℕ → ℕ) (sound : Retained m retai
       claim-total m retained received sound even fair,
     )
 
-    -- the deficit is met, and held is the rest of a tier and the rounding up of the rounds; or nothing is paid at all
-    pub held-cases : Near (sum (paid m retained received) (m .n) + tierRest) (sum received (m .n)) (m .n - 1)
-        ⊎ ((sum (paid m retained received) (m .n) ≡ 0) × (sum received (m .n) ≤ tierRest))
-    unfolding paid spent
-    held-cases =
-        let ended = spread-ended (m .n) (revised m retained received) (scaledAbove m retained received) (deficit m retained received) scaled-backed in
-        let c = claim-total m retained received sound even fair in
-        ⊎-elim
-        (λ (met : spread (m .n) (revised m retained received) (scaledAbove m retained received) (deficit m retained received) .deficit ≡ 0).
-        inl (omega (arith, ended, scaled-total, revised-total, available-exact, c)))
-        (λ (more : 0 < spread (m .n) (revised m retained received) (scaledAbove m retained received) (deficit m retained received) .deficit).
-        inr (omega (arith, ended, scaled-total, revised-total, available-exact, c)))
-        (eq-zero-or-pos _)
-
     -- nothing is cut off in held money, and few cents are held
     pub held-exact : held (m .n) received (paid m retained received) + sum (paid m retained received) (m .n) ≡ sum received (m .n)
     unfolding held
     held-exact = omega (arith, paid-near)
 
-    pub held-le : held (m .n) received (paid m retained received) ≤ 2 * (m .n - 1)
+    pub held-le : held (m .n) received (paid m retained received) ≤ m .n - 1
     unfolding held
-    held-le = omega (arith, paid-near, tier-rest-le)
+    held-le = omega (arith, paid-near)

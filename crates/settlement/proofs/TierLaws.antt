@@ -1,16 +1,17 @@
 -- Laws of money that meets tiers in order.
 use mathlib.Core.Path.{_≡_, refl, sym, _∙_}
 use mathlib.Core.Logic.{⊎-elim}
-use Prim.Native.Nat.{ℕ, zero, suc, _+_, _-_, _*_, _/_, _≤_, _<_}
-use native.Mathlib.Nat.{eq-or-lt-of-le, zero-div, mul-zero}
+use Prim.Native.Nat.{ℕ, zero, suc, _+_, _-_, _≤_, _<_}
+use native.Mathlib.Nat.{eq-or-lt-of-le}
 use native.Mathlib.Omega.{arith}
 use native.Mathlib.Numerals.{add-one}
 use Rattle.exact.specs.Rows.{sum}
 use Rattle.exact.proofs.Cases.{cases-le, le-or-lt}
 use Rattle.exact.proofs.RowLaws.{sum-none, sum-suc, sum-cong, sum-mono, sum-zero, sum-swap, sum-part, sum-term}
-use Rattle.exact.proofs.Shares.{Near, floor-le-weight, floor-sum}
 use Rattle.settlement.specs.Month.{tiers, overTiers}
+use Rattle.settlement.specs.Sharing.{shareByWeight, Shareable}
 use Rattle.settlement.specs.Tiers.{share, leftFor, tierShare, met}
+use Rattle.settlement.proofs.SharingLaws.{shares-are-exact, by-weight-cong}
 
 -- one tier
 module _ (n : ℕ) (w : ℕ → ℕ) (left : ℕ) where
@@ -18,31 +19,32 @@ module _ (n : ℕ) (w : ℕ → ℕ) (left : ℕ) where
   unfolding share
   share-met h i = cases-le (λ z. z ≡ w i) (sum w n) left (λ _. refl) (λ l. absurd (omega arith))
 
-  share-unmet : left < sum w n → (i : ℕ) → share n w left i ≡ w i * left / sum w n
+  pub share-unmet : left < sum w n → (i : ℕ) → share n w left i ≡ shareByWeight w left (sum w n) n i
   unfolding share
-  share-unmet h i = cases-le (λ z. z ≡ w i * left / sum w n) (sum w n) left (λ l. absurd (omega arith)) (λ _. refl)
+  share-unmet h i = cases-le (λ z. z ≡ shareByWeight w left (sum w n) n i) (sum w n) left (λ l. absurd (omega arith)) (λ _. refl)
+
+  -- what is left for a tier that is not met can be shared
+  pub unmet-shareable : left < sum w n → Shareable w left (sum w n) n
+  unmet-shareable h = record { whole = refl; some = omega arith; within = omega arith }
 
   pub share-le : (i : ℕ) → share n w left i ≤ w i
   unfolding share
-  share-le i = cases-le (λ z. z ≤ w i) (sum w n) left (λ _. omega arith) (λ l. floor-le-weight w left n (omega arith) (omega arith) i)
+  share-le i = cases-le (λ z. z ≤ w i) (sum w n) left (λ _. omega arith) (λ l. shares-are-exact w left (sum w n) n (unmet-shareable l) .within i)
 
-  -- a tier that is not met shares all but at most n - 1 of what is left
-  share-unmet-total : left < sum w n → Near (sum (share n w left) n) left (n - 1)
-  share-unmet-total h =
-      let e : sum (share n w left) n ≡ sum (λ i. w i * left / sum w n) n = sum-cong _ _ n (λ i _. share-unmet h i) in
-      rw e (floor-sum w left n (omega arith))
+  -- a tier that is not met shares all that is left
+  share-unmet-total : left < sum w n → sum (share n w left) n ≡ left
+  share-unmet-total h = sum-cong _ _ n (λ i _. share-unmet h i) ∙ shares-are-exact w left (sum w n) n (unmet-shareable h) .whole
 
-  share-nothing : left ≡ 0 → (i : ℕ) → i < n → share n w left i ≡ 0
-  unfolding share
+  pub share-nothing : left ≡ 0 → (i : ℕ) → i < n → share n w left i ≡ 0
   share-nothing e i h =
-      cases-le (λ z. z ≡ 0) (sum w n) left
-      (λ l. omega (arith, sum-term w n i h))
-      (λ _. rw (e, mul-zero (w i)) (zero-div (sum w n)))
+      ⊎-elim (λ (l : sum w n ≤ left). omega (arith, share-le i, sum-term w n i h))
+      (λ (l : left < sum w n). omega (arith, share-unmet-total l, sum-term (share n w left) n i h))
+      (le-or-lt (sum w n) left)
 
 -- a tier's shares go by what it wants below n
 pub share-cong : (n : ℕ) (f g : ℕ → ℕ) (left : ℕ) → ((i : ℕ) → i < n → f i ≡ g i) → (i : ℕ) → i < n → share n f left i ≡ share n g left i
 unfolding share
-share-cong n f g left h i l = rw (sum-cong f g n h, h i l)
+share-cong n f g left h i l = rw (sum-cong f g n h, h i l, by-weight-cong f g left (sum g n) n h i l)
 
 -- all tiers
 module _ (n : ℕ) (w : ℕ → ℕ → ℕ) where
@@ -90,7 +92,7 @@ module _ (n : ℕ) (w : ℕ → ℕ → ℕ) where
     unfolding tierShare
     tier-after t h i l = share-nothing n (w t) (leftFor n w money t) (omega (arith, left-is t)) i l
 
-    tier-unmet : (t : ℕ) → leftFor n w money t < sum (w t) n → Near (sum (tierShare n w money t) n) (leftFor n w money t) (n - 1)
+    tier-unmet : (t : ℕ) → leftFor n w money t < sum (w t) n → sum (tierShare n w money t) n ≡ leftFor n w money t
     unfolding tierShare
     tier-unmet t h = share-unmet-total n (w t) (leftFor n w money t) h
 
@@ -115,7 +117,7 @@ module _ (n : ℕ) (w : ℕ → ℕ → ℕ) where
     given-met (suc k) h =
         omega (arith, given-suc k, wanted-suc k, given-met k (omega (arith, wanted-suc k)), sum-cong (tierShare n w money k) (w k) n (λ i _. tier-met k h i))
 
-    given-unmet : (k : ℕ) → money < wantedBefore k → Near (givenBefore k) money (n - 1)
+    given-unmet : (k : ℕ) → money < wantedBefore k → givenBefore k ≡ money
     given-unmet zero h = absurd (omega (arith, wanted-none))
     given-unmet (suc k) h =
         ⊎-elim
@@ -129,9 +131,9 @@ module _ (n : ℕ) (w : ℕ → ℕ → ℕ) where
     unfolding met givenBefore overTiers
     met-total = sum-swap (tierShare n w money) n tiers
 
-    -- what the tiers get is at most the money, and all but at most n - 1 of it where they want as much
-    pub met-near : money ≤ sum (overTiers w) n → Near (sum (met n w money) n) money (n - 1)
-    met-near h =
+    -- where the tiers want as much, they get just the money
+    pub met-exact : money ≤ sum (overTiers w) n → sum (met n w money) n ≡ money
+    met-exact h =
         ⊎-elim
         (λ (e : money ≡ wantedBefore tiers). omega (arith, met-total, given-met tiers (omega arith)))
         (λ (l : money < wantedBefore tiers). omega (arith, met-total, given-unmet tiers l))

@@ -1,4 +1,5 @@
--- The ten starred examples (01, Reckoned examples) as one proposition about the definitions. 30,000 gives 34 by 02, b.
+-- The ten starred examples (01, Reckoned examples) as one proposition about the definitions. 30,000 gives 34 by 02, b; month A
+-- pays 567 and holds nothing by 02, g.
 use Prim.Native.Nat.{ℕ, _+_}
 use mathlib.Core.Path.{_≡_}
 use mathlib.Core.List.{[], _∷_, _++_}
@@ -38,8 +39,8 @@ pub record Examples : Type 0 where
   pub energy-half-down : energyCents 100 300 ≡ 34
   pub energy-none : energyCents 0 100 ≡ 0
   pub noticeA : (table (retention monthA) 3 ≡ 0 ∷ 467 ∷ 134 ∷ []) × (table (payable monthA (retention monthA)) 3 ≡ 600 ∷ 0 ∷ 334 ∷ [])
-  pub settledA : (table (paid monthA (retention monthA) receivedA) 3 ≡ 0 ∷ 566 ∷ 67 ∷ []) × (held 3 receivedA (paid monthA (retention monthA) receivedA) ≡ 1) × (rounds monthA (retention monthA) receivedA ≡ 0)
-  pub late-A : (table lateA 3 ≡ 0 ∷ 78 ∷ 22 ∷ []) × (held 3 (at (400 ∷ 0 ∷ 334 ∷ [])) (λ i. paid monthA (retention monthA) receivedA i + lateA i) ≡ 1)
+  pub settledA : (table (paid monthA (retention monthA) receivedA) 3 ≡ 0 ∷ 567 ∷ 67 ∷ []) × (held 3 receivedA (paid monthA (retention monthA) receivedA) ≡ 0) × (rounds monthA (retention monthA) receivedA ≡ 0)
+  pub late-A : (table lateA 3 ≡ 0 ∷ 78 ∷ 22 ∷ []) × (held 3 (at (400 ∷ 0 ∷ 334 ∷ [])) (λ i. paid monthA (retention monthA) receivedA i + lateA i) ≡ 0)
   pub noticeB : (table (retention monthB) 3 ≡ 0 ∷ 300 ∷ 100 ∷ []) × (table (payable monthB (retention monthB)) 3 ≡ 300 ∷ 0 ∷ 400 ∷ [])
   pub settledB : (table (scaledAbove monthB (retention monthB) receivedB) 3 ≡ 0 ∷ 375 ∷ 0 ∷ []) × (table (scaledBelow monthB (retention monthB) receivedB) 3 ≡ 0 ∷ 0 ∷ 75 ∷ []) × (table (paid monthB (retention monthB) receivedB) 3 ≡ 0 ∷ 300 ∷ 0 ∷ []) × (rounds monthB (retention monthB) receivedB ≡ 1)
   pub two-rounds : (table (twoRounds .balance) 2 ≡ 0 ∷ 12 ∷ []) × (twoRounds .rounds ≡ 2)

@@ -1,6 +1,7 @@
 pub mod Month
 pub mod Notice
 pub mod Groups
+pub mod Sharing
 pub mod Tiers
 pub mod Claims
 pub mod Rounds
@@ -9,3 +10,4 @@ pub mod Late
 pub mod Examples
 pub mod GroupExamples
 pub mod ClauseExamples
+pub mod SharingExamples

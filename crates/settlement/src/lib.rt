@@ -7,6 +7,7 @@ mod owing;
 mod retention;
 mod scaling;
 mod settling;
+mod sharing;
 mod spread;
 mod walk;
 

@@ -3,7 +3,7 @@ use Prim.Native.Nat.{ℕ, _-_, _+_, _≤_, _<_}
 use mathlib.Core.Path.{_≡_, sym, ap₂, _∙_}
 use native.Mathlib.Omega.{arith}
 use Rattle.exact.specs.Rows.{at, sum, cells}
-use Rattle.exact.proofs.RowLaws.{cells-zero, cells-at, cells-cong, sum-cong, sum-none, sum-more, sum-term}
+use Rattle.exact.proofs.RowLaws.{cells-zero, cells-at, cells-cong, cells-again, sum-cong, sum-none, sum-more, sum-term}
 use Rattle.settlement.specs.Month.{tiers, sideLimit, tierAt, overTiers}
 use Rattle.settlement.specs.Tiers.{leftFor, tierShare}
 use Rattle.settlement.proofs.MonthLaws.{tier-total-le}
@@ -33,12 +33,12 @@ row-bound c =
 
 -- what a participant has after a turn
 turn : (c : tie.After-tier-share Inv-loop μ-loop) → let l = c .before .before .before .before .before .loop in let x = c .before .before .before .before .before .before .args in
-    (i : ℕ) → i < x .n → at (l .out) i + at (c .tier-share .result .cents) i ≡ sum (λ s. tierShare (x .n) (tierAt (x .t1)) (x .money) s i) (l .t + 1)
+    (i : ℕ) → i < x .n → at (l .out) i + at (c .tier-share .result) i ≡ sum (λ s. tierShare (x .n) (tierAt (x .t1)) (x .money) s i) (l .t + 1)
 unfolding tierShare
 turn c i h =
     let l = c .before .before .before .before .before .loop in
     let x = c .before .before .before .before .before .before .args in
-    rw (l .inv .1, c .tier-share .ensures .0, l .inv .2, sum-more) (ap₂ _+_ (cells-at _ _ i h) (cells-at _ _ i h ∙ share-cong (x .n) _ _ _ (row-at (c .before .before)) i h))
+    rw (l .inv .1, c .tier-share .ensures, l .inv .2, sum-more) (ap₂ _+_ (cells-at _ _ i h) (cells-at _ _ i h ∙ share-cong (x .n) _ _ _ (row-at (c .before .before)) i h))
 
 loop-holds : tie.Need-loop-holds Inv-loop μ-loop
 loop-holds c = (search needs, cells-zero _ _ (c .pre .0) (λ i _. sum-none _), sym (left-first _ _ _))
@@ -50,13 +50,12 @@ total-requires : tie.Need-total-requires Inv-loop μ-loop
 total-requires c κs = (search needs, omega (arith, row-bound c))
 
 tier-share-requires : tie.Need-tier-share-requires Inv-loop μ-loop
-tier-share-requires c κs = (search needs, c .total .ensures, omega (arith, c .total .ensures, row-bound (c .before)))
+tier-share-requires c κs = (search needs, c .total .ensures, omega (arith, c .total .ensures, row-bound (c .before)), rw (c .before .tier .ensures) (cells-again _ _))
 
 sums-requires : tie.Need-sums-requires Inv-loop μ-loop
 sums-requires c κs =
-    let b = c .before in
-    let s = b .before .before .before .before .before .before in
-    (search needs, λ i h. omega (arith, turn b i h, s .pre, met-part (s .args .n) (tierAt (s .args .t1)) (s .args .money) (b .before .before .before .before .before .loop .t + 1) i (omega arith), sum-term (overTiers (tierAt (s .args .t1))) (s .args .n) i h))
+    let s = c .before .before .before .before .before .before in
+    (search needs, λ i h. omega (arith, turn c i h, s .pre, met-part (s .args .n) (tierAt (s .args .t1)) (s .args .money) (c .before .before .before .before .before .loop .t + 1) i (omega arith), sum-term (overTiers (tierAt (s .args .t1))) (s .args .n) i h))
 
 excess-requires : tie.Need-excess-requires Inv-loop μ-loop
 excess-requires c κs = search needs
@@ -69,7 +68,7 @@ loop-less c = search needs
 
 loop-again : tie.Need-loop-again Inv-loop μ-loop
 loop-again c =
-    let b = c .before .before .before in
+    let b = c .before .before in
     let l = b .before .before .before .before .before .loop in (
       search needs,
       c .before .sums .ensures ∙ cells-cong _ _ _ (turn b),

@@ -1,81 +1,28 @@
 use borrow.Author.Needs.{needs}
-use Prim.Native.Nat.{_-_, _≤_}
-use mathlib.Core.Path.{_≡_, ap, _∙_}
+use mathlib.Core.Path.{sym, _∙_}
 use native.Mathlib.Omega.{arith}
-use Rattle.exact.specs.Rows.{at, cells}
-use Rattle.exact.proofs.RowLaws.{cells-none, cells-more, sum-term}
-use Rattle.settlement.specs.Tiers.{share, shareRemainder}
+use Rattle.exact.proofs.RowLaws.{cells-cong, cells-zero}
+use Rattle.settlement.proofs.TierLaws.{share-met, share-unmet, share-nothing, unmet-shareable}
 use Rattle.settlement.proofs.walk.tier_share.Statement.{statement}
 use Rattle.settlement.proofs.walk.tier_share.Tie as tie
 
-abbrev Inv-loop : tie.InvT-loop
-Inv-loop left whole n wanted cents₀ remainders₀ i₀ cents remainders i = (i ≤ n) × (cents ≡ cells (share n (at wanted) left) i) × (remainders ≡ cells (shareRemainder n (at wanted) left) i)
-
-abbrev μ-loop : tie.MeasureT-loop
-μ-loop left whole n wanted cents₀ remainders₀ i₀ cents remainders i = n - i
-
-loop-holds : tie.Need-loop-holds Inv-loop μ-loop
-loop-holds c = (search needs, cells-none _, cells-none _)
-
-mul-share-of : tie.Need-mul-share-of Inv-loop μ-loop
-mul-share-of c = search needs
-
-array-read-share-of : tie.Need-array-read-share-of Inv-loop μ-loop
-array-read-share-of c = search needs
-
-share-of-requires : tie.Need-share-of-requires Inv-loop μ-loop
-share-of-requires c κs =
-    let s = c .before .before in
-    omega (arith, sum-term (at (s .args .t1)) (s .args .n) (c .before .loop .i) (omega arith))
-
-mul-cents : tie.Need-mul-cents Inv-loop μ-loop
-mul-cents c = search needs
-
-array-write-cents : tie.Need-array-write-cents Inv-loop μ-loop
-array-write-cents c = search needs
-
-mul-remainders : tie.Need-mul-remainders Inv-loop μ-loop
-mul-remainders c = search needs
-
-array-write-remainders : tie.Need-array-write-remainders Inv-loop μ-loop
-array-write-remainders c = search needs
-
-add-i : tie.Need-add-i Inv-loop μ-loop
-add-i c = search needs
-
-loop-less : tie.Need-loop-less Inv-loop μ-loop
-loop-less c = search needs
-
-loop-again : tie.Need-loop-again Inv-loop μ-loop
-unfolding share shareRemainder
-loop-again c =
-    let l = c .before .before .loop in
-    let w = c .before .before .before .pre .1 in (
-      search needs,
-      rw (l .inv .1, c .share-of .ensures .0, w) (cells-more _ (l .i) (omega arith)),
-      rw (l .inv .2, c .share-of .ensures .1, w) (cells-more _ (l .i) (omega arith)),
-    )
-
-returns : tie.Need-returns Inv-loop μ-loop
+returns : tie.Need-returns
 returns c =
-    let l = c .before .loop in
-    (l .inv .1 ∙ ap (cells _) (omega arith), l .inv .2 ∙ ap (cells _) (omega arith))
+    let s = c .before in
+    s .pre .3 ∙ cells-cong _ _ _ (λ i _. sym (share-met _ _ _ (rw (s .pre .1) at (c .if1 .taken)) i))
+
+returns-2 : tie.Need-returns-2
+returns-2 c = cells-zero _ _ (c .before .before .pre .0) (λ i h. share-nothing _ _ _ (c .if2 .taken) i h)
+
+share-by-weight-requires : tie.Need-share-by-weight-requires
+share-by-weight-requires c κs =
+    let s = c .before .before in
+    (s .pre .0, s .pre .2, rw (s .pre .1) (unmet-shareable _ _ _ (rw (s .pre .1) at (c .before .if1 .left))))
+
+returns-3 : tie.Need-returns-3
+returns-3 c =
+    let s = c .before .before .before in
+    c .share-by-weight .ensures ∙ rw (s .pre .1) (cells-cong _ _ _ (λ i _. sym (share-unmet _ _ _ (rw (s .pre .1) at (c .before .before .if1 .left)) i)))
 
 pub tier-share-spec : {M : Type 1} → statement M
-tier-share-spec =
-    tie.close
-    (tie.spec
-    Inv-loop
-    μ-loop
-    loop-holds
-    mul-share-of
-    array-read-share-of
-    share-of-requires
-    mul-cents
-    array-write-cents
-    mul-remainders
-    array-write-remainders
-    add-i
-    loop-less
-    loop-again
-    returns)
+tier-share-spec = tie.close (tie.spec returns returns-2 share-by-weight-requires returns-3)
