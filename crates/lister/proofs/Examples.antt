@@ -13,6 +13,7 @@ use Rattle.settlement.specs.Month.{overTiers}
 use Rattle.settlement.specs.Notice.{gives, payable, fullClaim}
 use Rattle.settlement.specs.Groups.{groupingAllowed, groupSum, outsideSum, shortfallWithReserve, groupShortfall, outsideTier5, groupRetention}
 use Rattle.settlement.specs.Claims.{unpaid, setOff, arrears, claim}
+use Rattle.settlement.specs.Sharing.{before, rank, leftoverCent, floorShare, remainder, leftover, shareByWeight}
 use Rattle.settlement.specs.Tiers.{share, leftFor, tierShare, met}
 use Rattle.settlement.specs.Rounds.{weight, loss, round, run, spread}
 use Rattle.settlement.specs.Settling.{available, revised, scaledAbove, scaledBelow, deficit, spent, rounds, paid, held}
@@ -26,7 +27,7 @@ use Rattle.lister.specs.Listing.{entryLines, endLine, entriesFrom, listi
 use Rattle.lister.specs.Examples.{Examples}
 
 pub examples : Examples
-unfolding listing listingFrom entriesFrom entryLines endLine entryLine payLine payLines digitsOf decimal entryOf valueAt fieldsAt reading entryAt paidBy reply pack zeros fresh raised sideTotal holds leaves amounted withNotice withReceipt withSettlement latePays withLateReceipt changed heldIn heldBy drawnFrom withDrawn pursesLeft periodsAfter pursesAfter made find arrearsBefore earlierArrears replaced removed added receivable stored payoutWords acted accepted step sum largest table filled cells ceilDiv energyCents overTiers gives groupingAllowed groupSum outsideSum shortfallWithReserve groupShortfall outsideTier5 groupRetention payable fullClaim unpaid setOff arrears claim share leftFor tierShare met weight loss round run spread available revised scaledAbove scaledBelow deficit spent rounds paid held fill shortage latePayment
+unfolding listing listingFrom entriesFrom entryLines endLine entryLine payLine payLines digitsOf decimal entryOf valueAt fieldsAt reading entryAt paidBy reply pack zeros fresh raised sideTotal holds leaves amounted withNotice withReceipt withSettlement latePays withLateReceipt changed heldIn heldBy drawnFrom withDrawn pursesLeft periodsAfter pursesAfter made find arrearsBefore earlierArrears replaced removed added receivable stored payoutWords acted accepted step sum largest table filled cells ceilDiv energyCents overTiers gives groupingAllowed groupSum outsideSum shortfallWithReserve groupShortfall outsideTier5 groupRetention payable fullClaim unpaid setOff arrears claim before rank leftoverCent floorShare remainder leftover shareByWeight share leftFor tierShare met weight loss round run spread available revised scaledAbove scaledBelow deficit spent rounds paid held fill shortage latePayment
 examples = record {
   month-a = refl;
   empty = refl;

@@ -1,5 +1,5 @@
 -- Demand 3, from the invariant after the list.
-use Prim.Native.Nat.{ℕ, _+_, _-_, _*_, _≤_, _<_}
+use Prim.Native.Nat.{ℕ, _+_, _-_, _≤_, _<_}
 use mathlib.Core.Path.{_≡_, refl, sym, ap, subst, subst₂, fun-ext, _∙_}
 use mathlib.Core.Bool.{true≢false}
 use mathlib.Core.List.{List, [], _∷_}
@@ -24,7 +24,7 @@ use Rattle.book.proofs.rules.ChangeLaws.{no-pays, paid-within, clear-le
 use Rattle.book.proofs.rules.MakingLaws.{kept-retention}
 use Rattle.book.proofs.rules.ListLaws.{rising-numbers, all-both, all-has}
 use Rattle.book.proofs.history.Tracking.{Since, Staged}
-use Rattle.book.proofs.history.Reckoned.{received-total, paid-total, arrears-total, cut-off, claims-balance, little-held}
+use Rattle.book.proofs.history.Reckoned.{received-total, paid-total, arrears-total, cut-off, claims-balance, none-held, little-held}
 use Rattle.book.proofs.rules.ValidLaws.{view-pack, pack-valid}
 use Rattle.book.proofs.records.Packing.{kept-held}
 use Rattle.book.proofs.history.Invariant.{Closed, Kept, Inv}
@@ -79,8 +79,11 @@ module _ (n : ℕ) {grouping : Grouping} (g : Ledger) (p : Period) (h : Present 
     claims-there : unpaidClaims n (retention n grouping) (g .account (p .number)) ≡ sum (arrears n (retention n grouping) (g .account (p .number))) n + heldMoney n (g .account (p .number))
     claims-there = claims-balance n p a (h .kept .tracks) since at-stage
 
-    little-there : heldMoney n (g .account (p .number)) ≤ 2 * (n - 1)
+    little-there : heldMoney n (g .account (p .number)) ≤ n - 1
     little-there = little-held n p a (h .kept .tracks) since at-stage
+
+    none-there : 0 < sum (g .account (p .number) .late) n → heldMoney n (g .account (p .number)) ≡ 0
+    none-there l = none-held n p a (h .kept .tracks) since l
 
 held-listed : (n : ℕ) (grouping : Grouping) (log : Log) (ps : List Period) → All (Present n grouping (ledger n (retention n grouping) log)) ps
     → heldIn n ps ≡ heldOver n (retention n grouping) log (numbers ps)
@@ -158,6 +161,7 @@ module _ (n : ℕ) {grouping : Grouping} (b : Book) (log : Log) (valid : Valid b
     listed = kept-held valid ∙ held-is;
     claims = there _ (claims-there n g);
     held-bound = there _ (little-there n g);
+    late-held = there _ (none-there n g);
     left = λ k o ne. let c = gone k o ne in (omega (arith, c .settled), c .clear);
     leaves = λ k o x z q. there (λ k. WasSettled n R k log → WithoutArrears n R k log → ⊥) (in-arrears n g) k q x z;
     paid-in-full = λ k o ne. gone k o ne .paid-in-full;

@@ -5,7 +5,7 @@ use mathlib.Core.List.{List}
 use native.Mathlib.Omega.{arith}
 use lib.ListN.{set}
 use Rattle.exact.specs.Rows.{at, cells}
-use Rattle.exact.proofs.RowLaws.{cells-at, cells-cong}
+use Rattle.exact.proofs.RowLaws.{cells-at, cells-cong, sum-zero}
 use Rattle.settlement.specs.Month.{Month, tierAt}
 use Rattle.settlement.specs.Notice.{payable}
 use Rattle.settlement.specs.Groups.{groupRetention}
@@ -24,7 +24,7 @@ use Rattle.book.specs.declared.entries.Entry.the-variants.{Receipt, Sett
 use Rattle.book.specs.declared.Period.{Period}
 use Rattle.book.proofs.rules.CellLaws.{raised-at, lowered-at}
 use Rattle.book.proofs.rules.Passing.{PassesReceipt}
-use Rattle.book.proofs.rules.SettlementLaws.{due-in-book, within-payable, fits-arrears, late-order}
+use Rattle.book.proofs.rules.SettlementLaws.{due-in-book, within-payable, fits-arrears, none-held, late-order}
 use Rattle.book.proofs.history.LogLaws.{month-still, before-unsettled, late-unsettled, before-settled, late-settled, received-grows}
 use Rattle.book.proofs.history.Reckoned.{to-is, claim-is}
 use Rattle.book.proofs.history.Tracking.{Unsettled, Since, Staged, Tracks, with-entry, Paid}
@@ -67,6 +67,7 @@ module _ (n : ℕ) {grouping : Grouping} (p : Period) (s : Sound n p) (a : Accou
           u .none-late i,
         );
         within = λ i h. omega (arith, before-same i h, within-payable n p s q (due-in-book n p b q) i h);
+        late-held = λ l. absurd (omega (arith, l, sum-zero (after .late) n (λ i _. late-unsettled n x a i (u .unsettled) ∙ u .none-late i)));
       };
     }
       where
@@ -126,6 +127,7 @@ module _ (n : ℕ) {grouping : Grouping} (p : Period) (s : Sound n p) (a : Accou
         claims = since .claims ∙ ap (λ g. cells (claim (monthOf n p) (groupRetention (monthOf n p) grouping) g) n) before-still;
         arrears = arrears-now;
         within = λ j h. subst (λ g. g j ≤ payable (monthOf n p) (groupRetention (monthOf n p) grouping) j) before-still (since .within j h);
+        late-held = λ _. none-held n p s q i cents f;
       });
     }
 

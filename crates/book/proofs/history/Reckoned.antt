@@ -1,5 +1,5 @@
 -- What demand 3 reckons of a settled period, from the rows of a period that tracks its account.
-use Prim.Native.Nat.{ℕ, _+_, _-_, _*_, _≤_, _<_}
+use Prim.Native.Nat.{ℕ, _+_, _-_, _≤_, _<_}
 use mathlib.Core.Path.{_≡_, ap, subst, _∙_}
 use mathlib.Core.List.{List}
 use native.Mathlib.Omega.{arith}
@@ -41,6 +41,9 @@ module _ (n : ℕ) {grouping : Grouping} (p : Period) (a : Account) (t : Tracks 
     within-is : (i : ℕ) → i < n → a .before i ≤ payable n (retention n grouping) a i
     within-is i h = subst (λ (m : Month). a .before i ≤ notice.payable m (groupRetention m grouping) i) (t .month) (since .within i h)
 
+    pub none-held : 0 < sum (a .late) n → heldMoney n a ≡ 0
+    none-held l = omega (arith, since .late-held l, received-total, paid-total)
+
     pub arrears-total : sum (at (p .arrears)) n ≡ sum (arrears n (retention n grouping) a) n
     arrears-total = sum-cong (at (p .arrears)) (arrears n (retention n grouping) a) n (λ i h. omega (arith, arrears-is i h))
 
@@ -70,5 +73,5 @@ module _ (n : ℕ) {grouping : Grouping} (p : Period) (a : Account) (t : Tracks 
         sum-cong (λ i. claim n (retention n grouping) a i - a .paid i + a .paid i) (claim n (retention n grouping) a) n (λ i h. omega (arith, paid-le i h)),
       )
 
-      pub little-held : heldMoney n a ≤ 2 * (n - 1)
+      pub little-held : heldMoney n a ≤ n - 1
       little-held = omega (arith, f .held-bound, received-total, paid-total)

@@ -7,7 +7,7 @@ use mathlib.Core.List.{List}
 use mathlib.Core.Logic.{inl, inr}
 use native.Mathlib.Omega.{arith}
 use lib.Dec.{eqb, eqb·suc-suc}
-use Rattle.exact.specs.Rows.{places, at, cells}
+use Rattle.exact.specs.Rows.{places, at, sum, cells}
 use Rattle.exact.proofs.RowLaws.{cells-at}
 use Rattle.settlement.specs.Month.{Month, tiers, tierAt}
 use Rattle.settlement.specs.Notice.{payable}
@@ -33,12 +33,14 @@ pub record Unsettled (a : Account) : Type 0 where
   pub unsettled : a .settlements ≡ 0
   pub none-late : (i : ℕ) → a .late i ≡ 0
 
--- from its settle entry on the period has the claims of step 1, and those arrears less the late receipts
+-- from its settle entry on the period has the claims of step 1, and those arrears less the late receipts; once one came it holds
+-- nothing
 pub record Since (n : ℕ) (grouping : Grouping) (p : Period) (a : Account) : Type 0 where
   pub settled : a .settlements ≡ 1
   pub claims : p .claim ≡ cells (claim (monthOf n p) (groupRetention (monthOf n p) grouping) (a .before)) n
   pub arrears : (i : ℕ) → i < n → at (p .arrears) i + a .late i ≡ arrears (monthOf n p) (groupRetention (monthOf n p) grouping) (a .before) i
   pub within : (i : ℕ) → i < n → a .before i ≤ payable (monthOf n p) (groupRetention (monthOf n p) grouping) i
+  pub late-held : 0 < sum (a .late) n → sum (at (p .received)) n ≡ sum (at (p .paid)) n
 
 abbrev pub Staged : ℕ → Grouping → Period → Account → Stage → Type 0
 Staged n grouping p a Opened = Unsettled a

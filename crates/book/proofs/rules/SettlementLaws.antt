@@ -6,7 +6,6 @@ use native.Mathlib.Omega.{arith}
 use lib.ListN.{set, length-set}
 use Rattle.exact.specs.Rows.{at, sum, cells}
 use Rattle.exact.proofs.RowLaws.{sum-zero, sum-add, sum-cong, cells-at, cells-length, Holds, holds, sum-holds}
-use Rattle.exact.proofs.Shares.{Near}
 use Rattle.settlement.specs.Month.{Month, tiers, tierAt}
 use Rattle.settlement.specs.Notice.{payable, Due}
 use Rattle.settlement.specs.Groups.{groupRetention}
@@ -14,7 +13,7 @@ use Rattle.settlement.specs.declared.groups.Grouping.{Grouping}
 use Rattle.settlement.specs.Claims.{claim, arrears}
 use Rattle.settlement.specs.Settling.{paid, held}
 use Rattle.settlement.specs.Late.{fill, tiersOf, shortage, latePayment}
-use Rattle.settlement.proofs.Laws.{retention-sound, claim-le, claim-total, paid-le, paid-full, held-exact, held-le, late-near, late-le, late-full, shortage-cong, tiers-in-order}
+use Rattle.settlement.proofs.Laws.{retention-sound, claim-le, claim-total, paid-le, paid-full, held-exact, held-le, late-exact, late-le, late-full, shortage-cong, tiers-in-order}
 use Rattle.book.specs.rules.Periods.{monthOf, sideTotal, raised, withReceipt, withSettlement, latePays, withLateReceipt}
 use Rattle.book.specs.rules.Periods as period
 use Rattle.book.specs.rules.Refusals.{receivable}
@@ -121,12 +120,17 @@ module _ (n : ℕ) (p : Period) (s : Sound n p) (settled : p .stage ≡ Settled)
   paid-total : sum (at (cells (λ k. at (p .paid) k + at (latePays n q) k) n)) n ≡ sum (at (p .paid)) n + sum pay n
   paid-total = omega (arith, sum-cong _ (λ j. at (p .paid) j + pay j) n paid-at, sum-add (at (p .paid)) pay n)
 
-  all-but-few : Near (sum pay n) money (n - 1)
-  all-but-few = late-near (tierAt (p .to)) (at (p .claim)) (at (p .paid)) n money (sum (at remaining) n) (since .paid-le) (since .claim-le) balanced
+  all-paid : sum pay n ≡ money
+  all-paid = late-exact (tierAt (p .to)) (at (p .claim)) (at (p .paid)) n money (sum (at remaining) n) (since .paid-le) (since .claim-le) balanced
 
   money-is : money + sum (at (p .paid)) n ≡ sum (at received) n
   unfolding period.holds held withReceipt
   money-is = omega (arith, since .paid-within, received-total)
+
+  -- nothing is held after it
+  pub none-held : sum (at (withLateReceipt n p i cents .period .received)) n ≡ sum (at (withLateReceipt n p i cents .period .paid)) n
+  unfolding withLateReceipt
+  none-held = omega (arith, paid-total, all-paid, money-is)
 
   late-standing : AfterSettlement n (withLateReceipt n p i cents .period)
   unfolding withLateReceipt
@@ -138,8 +142,8 @@ module _ (n : ℕ) (p : Period) (s : Sound n p) (settled : p .stage ≡ Settled)
       late-le (tierAt (p .to)) (at (p .claim)) (at (p .paid)) n money (sum (at remaining) n) (since .paid-le) (since .claim-le) balanced j h,
     );
     balance = omega (arith, since .balance, received-total, remaining-total);
-    paid-within = omega (arith, paid-total, all-but-few, money-is);
-    held-bound = omega (arith, paid-total, all-but-few, money-is);
+    paid-within = omega (arith, none-held);
+    held-bound = omega (arith, none-held);
   }
 
   pub late-changes : Changes n cents p (withLateReceipt n p i cents)

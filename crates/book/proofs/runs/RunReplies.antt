@@ -178,5 +178,5 @@ module _ (n : ℕ) where
 pub begun-paid : (m : Making) (work : List Work) → moneyPaid (m .n) (afterAll (begun m) work .log) ≡ paidOver (begun m) work
 unfolding begun made pack moneyPaid
 begun-paid m work =
-    let sized = cases-eq (λ (k : Making). (k .n ≡ 0) ⊎ (k .n ≡ m .n)) (refusal (makingChecks m)) 0 (λ _. inr refl) (λ _. inl refl) in
+    let sized : Sized (m .n) (begun m .book) = cases-eq (λ (k : Making). (k .n ≡ 0) ⊎ (k .n ≡ m .n)) (refusal (makingChecks m)) 0 (λ _. inr refl) (λ _. inl refl) in
     omega (arith, all-paid (m .n) (begun m) work sized)

@@ -2,7 +2,7 @@
 -- wrongly is found.
 use Prim.Native.Nat.{ℕ}
 use mathlib.Core.Path.{_≡_}
-use mathlib.Core.List.{List, [], _∷_, _++_}
+use mathlib.Core.List.{[], _∷_, _++_}
 use Rattle.book.specs.rules.Limits.{demonstration}
 use Rattle.book.specs.rules.State.{State}
 use Rattle.book.specs.rules.Makings.{made, separate}

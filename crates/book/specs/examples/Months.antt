@@ -73,9 +73,9 @@ paying paid held rounds words = record { answer = 0; paid = paid; held = held; r
 abbrev pub listingA : List Line
 listingA =
     quiet 0 ∷ quiet 0 ∷ quiet 0 ∷ quiet 0 ∷ quiet 0 ∷ quiet 0 ∷ quiet 0 ∷ quiet 300 ∷ quiet 634
-    ∷ paying 633 1 0 (0 ∷ 566 ∷ 67 ∷ 9 ∷ [])
-    ∷ paying 100 1 0 (0 ∷ 78 ∷ 22 ∷ 9 ∷ [])
-    ∷ paying 201 0 0 (0 ∷ 156 ∷ 45 ∷ 9 ∷ [])
+    ∷ paying 634 0 0 (0 ∷ 567 ∷ 67 ∷ 9 ∷ [])
+    ∷ paying 100 0 0 (0 ∷ 78 ∷ 22 ∷ 9 ∷ [])
+    ∷ paying 200 0 0 (0 ∷ 155 ∷ 45 ∷ 9 ∷ [])
     ∷ []
 
 -- month B, in which only 0 pays
@@ -114,6 +114,24 @@ listingD =
     ∷ paying 46 0 0 (0 ∷ 46 ∷ 0 ∷ 9 ∷ [])
     ∷ []
 
+-- owing by 0: 300, by 3: 500; owing to 1: 300, to 2: 300, to 3: 200, tier 5. Payable are 300 by 0 and 400 by 3
+abbrev pub noticeE : List Entry
+noticeE =
+    Open 1 ∷ Amount 1 0 0 0 300 ∷ Amount 1 3 0 0 500 ∷ Amount 1 1 1 5 300 ∷ Amount 1 2 1 5 300 ∷ Amount 1 3 1 5 200 ∷ Notice 1 ∷ []
+
+-- only 0 pays before settlement: of 500 available, 187.5 and 187.5 and 125, the leftover cent goes to 1; the deficit of 75 takes
+-- 37.6 and 37.4, each rounded up, so that a cent is held. With the late 100 of 3 it is paid out, and with the late 200 the period leaves
+abbrev pub paysE : List Entry
+paysE = Receipt 1 0 300 ∷ Settle 1 ∷ Receipt 1 3 100 ∷ Receipt 1 3 200 ∷ []
+
+abbrev pub listingE : List Line
+listingE =
+    paying 0 300 0 (0 ∷ 0 ∷ 0 ∷ 0 ∷ [])
+    ∷ paying 299 1 1 (0 ∷ 150 ∷ 149 ∷ 0 ∷ [])
+    ∷ paying 101 0 0 (0 ∷ 50 ∷ 51 ∷ 0 ∷ [])
+    ∷ paying 200 0 0 (0 ∷ 100 ∷ 100 ∷ 0 ∷ [])
+    ∷ []
+
 -- owing by 0: 100, owing to 1: 100, in each of periods 1 to 3, and 0 has arrears in period 2
 abbrev pub hundred : ℕ → List Entry
 hundred k = Open k ∷ Amount k 0 0 0 100 ∷ Amount k 1 1 5 100 ∷ Notice k ∷ []
@@ -140,12 +158,13 @@ pub record Examples : Type 0 where
   -- what is payable by 2 stands and a cent more is 13, without and with a reserve
   pub payable-c : answers (linesC 0 noticeC (Receipt 1 2 44 ∷ Receipt 1 2 43 ∷ [])) ≡ 13 ∷ 0 ∷ []
   pub payable-reserve : answers (linesC 100 noticeC (Receipt 1 2 73 ∷ Receipt 1 2 72 ∷ [])) ≡ 13 ∷ 0 ∷ []
-  -- only 0 does not pay: 2 is paid 9 of its claim of 143, and with groups of one 0 of its claim of 134
-  pub month-c : linesC 0 (noticeC ++ (Receipt 1 2 43 ∷ Receipt 1 3 300 ∷ [])) (Settle 1 ∷ []) ≡ paying 342 1 0 (0 ∷ 333 ∷ 9 ∷ 0 ∷ []) ∷ []
-  pub month-c-alone : linesFrom (stateAfter (book 4) lent (noticeC ++ (Receipt 1 2 34 ∷ Receipt 1 3 300 ∷ []))) lent (Settle 1 ∷ []) ≡ paying 333 1 0 (0 ∷ 333 ∷ 0 ∷ 0 ∷ []) ∷ []
+  -- only 0 does not pay: 2 is paid 10 of its claim of 143, and with groups of one 1 of its claim of 134
+  pub month-c : linesC 0 (noticeC ++ (Receipt 1 2 43 ∷ Receipt 1 3 300 ∷ [])) (Settle 1 ∷ []) ≡ paying 343 0 0 (0 ∷ 333 ∷ 10 ∷ 0 ∷ []) ∷ []
+  pub month-c-alone : linesFrom (stateAfter (book 4) lent (noticeC ++ (Receipt 1 2 34 ∷ Receipt 1 3 300 ∷ []))) lent (Settle 1 ∷ []) ≡ paying 334 0 0 (0 ∷ 333 ∷ 1 ∷ 0 ∷ []) ∷ []
   -- both related payers do not pay: what 2 leaves unpaid is set off, and a round takes the deficit from 1
-  pub month-c-both : linesC 0 (noticeC ++ (Receipt 1 3 300 ∷ [])) (Settle 1 ∷ []) ≡ paying 299 1 1 (0 ∷ 299 ∷ 0 ∷ 0 ∷ []) ∷ []
+  pub month-c-both : linesC 0 (noticeC ++ (Receipt 1 3 300 ∷ [])) (Settle 1 ∷ []) ≡ paying 300 0 1 (0 ∷ 300 ∷ 0 ∷ 0 ∷ []) ∷ []
   pub month-d : linesFrom (book 3) lent monthD ≡ listingD
+  pub month-e : linesFrom (stateAfter (book 4) lent noticeE) lent paysE ≡ listingE
   pub empty-month : answersAfter 3 [] (Open 1 ∷ Notice 1 ∷ Settle 1 ∷ []) ≡ 0 ∷ 0 ∷ 0 ∷ []
   pub empty-gone : stateAfter (book 3) lent (Open 1 ∷ Notice 1 ∷ Settle 1 ∷ []) .periods ≡ []
   pub answers-65 : answersAfter 65 [] (Open 1 ∷ Receipt 1 64 0 ∷ []) ≡ 4 ∷ 4 ∷ []

@@ -26,9 +26,9 @@ partA = (Purse 0 300 ∷ []) ++ noticeA ++ (Receipt 7 2 334 ∷ Settle 7 ∷ Rec
 abbrev pub listingPartA : List Line
 listingPartA =
     quiet 300 ∷ quiet 300 ∷ quiet 300 ∷ quiet 300 ∷ quiet 300 ∷ quiet 300 ∷ quiet 300 ∷ quiet 300 ∷ quiet 634
-    ∷ paying 633 1 0 (0 ∷ 566 ∷ 67 ∷ 9 ∷ [])
-    ∷ paying 100 1 0 (0 ∷ 78 ∷ 22 ∷ 9 ∷ [])
-    ∷ paying 201 0 0 (0 ∷ 156 ∷ 45 ∷ 9 ∷ [])
+    ∷ paying 634 0 0 (0 ∷ 567 ∷ 67 ∷ 9 ∷ [])
+    ∷ paying 100 0 0 (0 ∷ 78 ∷ 22 ∷ 9 ∷ [])
+    ∷ paying 200 0 0 (0 ∷ 155 ∷ 45 ∷ 9 ∷ [])
     ∷ []
 
 -- a line of two participants of whom 1 is paid so much, with the cents held

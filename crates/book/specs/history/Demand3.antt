@@ -1,5 +1,5 @@
--- Demand 3: one claim about a whole list of entries, from a book just made (01, The list of demand 3; 02, c and f).
-use Prim.Native.Nat.{ℕ, _+_, _-_, _*_, _≤_, _<_}
+-- Demand 3: one claim about a whole list of entries, from a book just made (01, The list of demand 3; 02, c, f and g).
+use Prim.Native.Nat.{ℕ, _+_, _-_, _≤_, _<_}
 use mathlib.Core.Path.{_≡_}
 use mathlib.Core.Bool.{true, cond}
 use mathlib.Core.Logic.{_⊎_}
@@ -74,6 +74,10 @@ module _ (n : ℕ) (retained : Account → ℕ → ℕ) where
   abbrev pub WasSettled : ℕ → Log → Type 0
   WasSettled k log = 0 < account k log .settlements
 
+  -- a late receipt came on it, one that follows its settle entry; a receipt has a cent or more
+  abbrev pub HadLateReceipt : ℕ → Log → Type 0
+  HadLateReceipt k log = 0 < sum (account k log .late) n
+
   abbrev pub WithoutArrears : ℕ → Log → Type 0
   WithoutArrears k log = (i : ℕ) → i < n → arrears n retained (account k log) i ≡ 0
 
@@ -119,10 +123,12 @@ module _ (n : ℕ) (retained : Account → ℕ → ℕ) where
     -- money received is money paid and money held, in periods and purses; the book's cents held are the money held
     pub cents : moneyReceived (h .log) ≡ moneyPaid n (h .log) + moneyHeld (h .log) (numbersIn (h .book))
     pub listed : centsHeld (h .book) ≡ moneyHeld (h .log) (numbersIn (h .book))
-    -- a settled period in the book: unpaid claims are arrears and its held money, and that is within its bound
+    -- a settled period in the book: unpaid claims are arrears and its held money, and that is at most n − 1 cents, and 0 once a late
+    -- receipt came (02, g)
     pub claims : (k : ℕ) → Has k (numbersIn (h .book)) → WasSettled k (h .log)
         → unpaidClaims n retained (account k (h .log)) ≡ sum (arrears n retained (account k (h .log))) n + heldMoney n (account k (h .log))
-    pub held-bound : (k : ℕ) → Has k (numbersIn (h .book)) → WasSettled k (h .log) → heldMoney n (account k (h .log)) ≤ 2 * (n - 1)
+    pub held-bound : (k : ℕ) → Has k (numbersIn (h .book)) → WasSettled k (h .log) → heldMoney n (account k (h .log)) ≤ n - 1
+    pub late-held : (k : ℕ) → Has k (numbersIn (h .book)) → WasSettled k (h .log) → HadLateReceipt k (h .log) → heldMoney n (account k (h .log)) ≡ 0
     -- an opened period has left the book exactly when it is settled and has no arrears; its claims are then paid in full
     pub left : (k : ℕ) → WasOpened k (h .log) → (Has k (numbersIn (h .book)) → ⊥) → WasSettled k (h .log) × WithoutArrears k (h .log)
     pub leaves : (k : ℕ) → WasOpened k (h .log) → WasSettled k (h .log) → WithoutArrears k (h .log) → Has k (numbersIn (h .book)) → ⊥

@@ -48,7 +48,7 @@ module _ (n : ℕ) (p : Period) where
     pub paid-le : (i : ℕ) → i < n → at (p .paid) i ≤ at (p .claim) i
     pub balance : sum (at (p .claim)) n ≡ sum (at (p .received)) n + sum (at (p .arrears)) n
     pub paid-within : sum (at (p .paid)) n ≤ sum (at (p .received)) n
-    pub held-bound : sum (at (p .received)) n ≤ sum (at (p .paid)) n + 2 * (n - 1)
+    pub held-bound : sum (at (p .received)) n ≤ sum (at (p .paid)) n + (n - 1)
 
   abbrev pub AtStage : Stage → Type 0
   AtStage Opened = BeforeNotice

@@ -37,7 +37,7 @@ returns c =
 kept-requires : tie.Need-kept-requires
 kept-requires c κs =
     let m = c .before .before .before .args .m in
-    let e = eqb-true _ _ (passed c) in
+    let e : refusal (makingChecks m) ≡ 0 = eqb-true _ _ (passed c) in
     omega (arith, accepted-many m e, accepted-limited m e .participants)
 
 empty-book-requires-2 : tie.Need-empty-book-requires-2
