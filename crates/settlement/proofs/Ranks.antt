@@ -18,17 +18,30 @@ below-is a b =
 
 -- a strict order: of two one comes before the other, and who comes before one comes before those after it
 module _ (rest : ℕ → ℕ) where
-  before-cases : (i j : ℕ) → ((before rest i j ≡ 1) × (rest i < rest j + min 1 (i - j))) ⊎ ((before rest i j ≡ 0) × (rest j + min 1 (i - j) ≤ rest i))
+  before-larger : (i j : ℕ) → rest i < rest j → before rest i j ≡ 1
   unfolding before
+  before-larger i j h = rw (lt-ltb (rest i) (rest j) h)
+
+  before-smaller : (i j : ℕ) → rest j < rest i → before rest i j ≡ 0
+  unfolding before
+  before-smaller i j h = rw (le-ltb (rest i) (rest j) (omega arith), ne-eqb (rest i) (rest j) (λ e. omega arith))
+
+  before-equal : (i j : ℕ) → rest i ≡ rest j → before rest i j ≡ cond (ltb j i) 1 0
+  unfolding before
+  before-equal i j e = rw (le-ltb (rest i) (rest j) (omega arith), eq-eqb (rest i) (rest j) e)
+
+  before-cases : (i j : ℕ) → ((before rest i j ≡ 1) × (rest i < rest j + min 1 (i - j))) ⊎ ((before rest i j ≡ 0) × (rest j + min 1 (i - j) ≤ rest i))
   before-cases i j =
       ⊎-elim
-      (λ (l : rest j ≤ rest i). rw (le-ltb (rest i) (rest j) l)
-      (⊎-elim
-      (λ (e : rest i ≡ rest j). rw (eq-eqb (rest i) (rest j) e, below-is j i)
-      (⊎-elim (λ (h : i ≤ j). inr (omega arith, omega arith)) (λ (h : j < i). inl (omega arith, omega arith)) (le-or-lt i j)))
-      (λ (ne : rest i ≡ rest j → ⊥). rw (ne-eqb (rest i) (rest j) ne) (inr (refl, omega arith)))
-      (eq-or-ne (rest i) (rest j))))
-      (λ (l : rest i < rest j). rw (lt-ltb (rest i) (rest j) l) (inl (refl, omega arith)))
+      (λ (l : rest j ≤ rest i).
+      ⊎-elim
+      (λ (e : rest i ≡ rest j).
+      ⊎-elim (λ (h : i ≤ j). inr (omega (arith, before-equal i j e, below-is j i), omega arith))
+      (λ (h : j < i). inl (omega (arith, before-equal i j e, below-is j i), omega arith))
+      (le-or-lt i j))
+      (λ (ne : rest i ≡ rest j → ⊥). inr (before-smaller i j (omega arith), omega arith))
+      (eq-or-ne (rest i) (rest j)))
+      (λ (l : rest i < rest j). inl (before-larger i j l, omega arith))
       (le-or-lt (rest j) (rest i))
 
   before-self : (i : ℕ) → before rest i i ≡ 0
@@ -185,16 +198,16 @@ module _ (rest : ℕ → ℕ) (n : ℕ) where
       ∙ sum-cong (tied i) (equals rest (rest i)) i (λ j a. rw (lt-ltb j i a))
 
   before-tied : (i j : ℕ) → before rest i j ≡ from (rest i + 1) j + tied i j
-  unfolding before tied
+  unfolding tied
   before-tied i j =
       let none : cond {A = ℕ} (ltb j i) 0 0 ≡ 0 = cases (λ (z : ℕ). z ≡ 0) (ltb j i) (λ _. refl) (λ _. refl) in
       ⊎-elim
-      (λ (l : rest j ≤ rest i).
-      ⊎-elim
-      (λ (e : rest i ≡ rest j). rw (le-ltb (rest i) (rest j) l, lt-leb (rest i + 1) (rest j) (omega arith), eq-eqb (rest i) (rest j) e, eq-eqb (rest j) (rest i) (sym e)) (omega arith))
-      (λ (ne : rest i ≡ rest j → ⊥). rw (le-ltb (rest i) (rest j) l, lt-leb (rest i + 1) (rest j) (omega arith), ne-eqb (rest i) (rest j) ne, ne-eqb (rest j) (rest i) (λ e. ne (sym e))) (omega (arith, none)))
-      (eq-or-ne (rest i) (rest j)))
-      (λ (l : rest i < rest j). rw (lt-ltb (rest i) (rest j) l, le-leb (rest i + 1) (rest j) (omega arith), ne-eqb (rest j) (rest i) (λ e. omega arith)) (omega (arith, none)))
+      (λ (l : rest j ≤ rest i). rw (lt-leb (rest i + 1) (rest j) (omega arith))
+      (⊎-elim
+      (λ (e : rest i ≡ rest j). rw (before-equal rest i j e, eq-eqb (rest j) (rest i) (sym e)) (omega arith))
+      (λ (ne : rest i ≡ rest j → ⊥). rw (before-smaller rest i j (omega arith), ne-eqb (rest j) (rest i) (λ e. ne (sym e))) (omega (arith, none)))
+      (eq-or-ne (rest i) (rest j))))
+      (λ (l : rest i < rest j). rw (before-larger rest i j l, le-leb (rest i + 1) (rest j) (omega arith), ne-eqb (rest j) (rest i) (λ e. omega arith)) (omega (arith, none)))
       (le-or-lt (rest j) (rest i))
 
   rank-tied : (i : ℕ) → i ≤ n → rank rest n i ≡ countFrom rest n (rest i + 1) + sum (equals rest (rest i)) i
