@@ -1,3 +1,4 @@
+use mathlib.Core.Path.{_≡_}
 use native.Mathlib.Omega.{arith}
 use borrow.Author.Tests.{eq-eqb, ne-eqb}
 use Rattle.text.proofs.PutLaws.{puts-then, puts-none}
@@ -8,7 +9,9 @@ use Rattle.lister.proofs.lines.put_pay.Tie as tie
 
 returns : tie.Need-returns
 unfolding payLine
-returns c = (rw (eq-eqb _ _ (c .if1 .taken)) (puts-none _ _), search needs)
+returns c =
+    let none : c .before .args .cents ≡ 0 = c .if1 .taken in
+    (rw (eq-eqb _ _ none) (puts-none _ _), search needs)
 
 slice-aggregate-put-bytes : tie.Need-slice-aggregate-put-bytes
 slice-aggregate-put-bytes c = search needs
