@@ -52,11 +52,6 @@ module _ (f : ℕ → ℕ) where
       (λ (l : k < suc m). omega (arith, z m (omega arith) (omega arith), sum-tail k m (omega arith) (λ i a b. z i a (omega arith))))
       (eq-or-lt-of-le h)
 
-  pub sum-some : (n : ℕ) → 0 < sum f n → 0 < n
-  unfolding sum
-  sum-some zero h = h
-  sum-some (suc n) h = omega arith
-
 module _ (f g : ℕ → ℕ) where
   pub sum-cong : (n : ℕ) → ((i : ℕ) → i < n → f i ≡ g i) → sum f n ≡ sum g n
   unfolding sum

@@ -13,9 +13,9 @@ pub use Rattle.settlement.proofs.ClaimLaws.{set-off-le, unpaid-exact, a
 pub use Rattle.settlement.proofs.SharingLaws.{shares-are-exact}
 pub use Rattle.settlement.proofs.Renumbering.{order-among-equals-alone}
 -- steps 2 to 5
-pub use Rattle.settlement.proofs.SettleLaws.{available-exact, revised-le, revised-total, revised-all, scaled-le-claim, scaled-le-revised}
+pub use Rattle.settlement.proofs.SettleLaws.{available-exact, revised-le, revised-sum-to-available, revised-all, scaled-le-claim, scaled-le-revised}
 pub use Rattle.settlement.proofs.SettleLaws.{paid-le, paid-near, paid-full, rounds-le, rounds-none, held-exact, held-le}
-pub use Rattle.settlement.proofs.SettleLaws.{negatives-set-to-zero}
+pub use Rattle.settlement.proofs.SettleLaws.{negatives-set-to-zero, held-by-rounding-up}
 pub use Rattle.settlement.proofs.EnoughRounds.{rounds-suffice, settlement-ends}
 -- late money
 pub use Rattle.settlement.proofs.LateLaws.{fill-sum, fill-mono, shortage-cong, shortage-sum, paid-through, pay, late-exact, late-le, late-full, late-open, tiers-in-order}

@@ -9,7 +9,8 @@ use lib.Dec.{ltb, eqb, leb}
 use Rattle.exact.specs.Rows.{sum}
 use Rattle.exact.proofs.Cases.{cases, cases-le, cases-eq, le-or-lt, eq-or-ne}
 use Rattle.exact.proofs.RowLaws.{sum-none, sum-suc, sum-more, sum-cong, sum-mono, sum-add, sum-const, sum-zero, sum-tail, sum-same-or-less}
-use Rattle.settlement.specs.Sharing.{before, rank, leftoverCent, countFrom, CutBetween}
+use Rattle.settlement.specs.Sharing.{before, rank, leftoverCent}
+use Rattle.settlement.specs.inner.Cuts.{countFrom, CutBetween}
 
 -- 1 where a is below b, else 0
 below-is : (a b : ℕ) → cond (ltb a b) 1 0 ≡ min 1 (b - a)
@@ -115,12 +116,6 @@ module _ (rest : ℕ → ℕ) where
       omega (arith, all, own, same, cents-total n (c - 1) (omega arith), cent-is (suc n) c n))
       (le-or-lt c (rank rest n n))
 
-  -- without a remainder one comes after all that have one
-  pub rank-without : (n i : ℕ) → rest i ≡ 0 → sum (λ j. min (rest j) 1) n ≤ rank rest n i
-  unfolding rank
-  rank-without n i z =
-      sum-mono (λ j. min (rest j) 1) (before rest i) n (λ j _. ⊎-elim (λ u. omega (arith, u .0)) (λ u. omega (arith, u .0, u .1)) (before-cases i j))
-
 -- ranks and cents go by the remainders below n
 pub cent-cong : (rest other : ℕ → ℕ) (n c : ℕ) → ((i : ℕ) → i < n → rest i ≡ other i) → (i : ℕ) → i < n → leftoverCent rest n c i ≡ leftoverCent other n c i
 unfolding leftoverCent rank before
@@ -181,7 +176,7 @@ module _ (rest : ℕ → ℕ) (n : ℕ) where
       ⊎-elim (λ u. ⊎-elim (λ v. omega (arith, u .0, v .0)) (λ v. absurd (omega (arith, u .1, v .1))) (from-cases t j)) (λ u. omega (arith, u .0)) (before-cases rest i j)))
 
   -- below t all of them come before one
-  rank-past : (t i : ℕ) → rest i < t → countFrom rest n t ≤ rank rest n i
+  pub rank-past : (t i : ℕ) → rest i < t → countFrom rest n t ≤ rank rest n i
   unfolding rank countFrom
   rank-past t i h =
       sum-mono (from t) (before rest i) n (λ j _.

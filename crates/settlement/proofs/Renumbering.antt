@@ -1,13 +1,12 @@
 -- The order of participants matters only among equal remainders.
-use mathlib.Core.Path.{_≡_, refl, sym, ap, _∙_}
+use mathlib.Core.Path.{_≡_, sym, ap, _∙_}
 use mathlib.Core.Bool.{cond}
 use mathlib.Core.Logic.{⊎-elim}
 use Prim.Native.Nat.{ℕ, _+_, _-_, _*_, _/_, _%_, _<_}
-use native.Mathlib.Omega.{arith}
 use borrow.Author.Tests.{eq-eqb, ne-eqb}
 use lib.Dec.{eqb, ltb}
 use Rattle.exact.specs.Rows.{sum}
-use Rattle.exact.proofs.Cases.{cases-eq, eq-or-ne}
+use Rattle.exact.proofs.Cases.{eq-or-ne}
 use Rattle.exact.proofs.RowLaws.{sum-cong, sum-single, sum-swap}
 use Rattle.settlement.specs.Sharing.{before, rank, leftoverCent, floorShare, remainder, leftover, shareByWeight, Renumbering, OrderAmongEqualsAlone}
 

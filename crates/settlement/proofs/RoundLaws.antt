@@ -119,8 +119,6 @@ module _ (n : ℕ) (v : ℕ → ℕ) where
     pub done : min (r .deficit) (sum (r .balance) n) ≡ 0
     pub low : sum (r .balance) n + s .deficit ≤ sum (s .balance) n + r .deficit
     pub high : sum (s .balance) n ≤ sum (r .balance) n + s .deficit + (n - 1)
-    -- a deficit that outlives the balances fell by all of them
-    pub outlived : min (r .deficit) ((sum (s .balance) n + r .deficit) - (sum (r .balance) n + s .deficit)) ≡ 0
     pub counted : r .rounds ≤ s .rounds + positives s
 
   none-positive : (s : Standing) → positives s ≤ 0 → sum (s .balance) n ≡ 0
@@ -143,13 +141,10 @@ module _ (n : ℕ) (v : ℕ → ℕ) where
       let lost = sum (loss n v (s .balance) (s .deficit)) n in
       let d : round n v s .deficit + lost ≡ s .deficit = omega (arith, round-deficit s) in
       let b = kept s backed some in
-      let same : (sum (s .balance) n + r .deficit) - (sum (r .balance) n + s .deficit)
-      ≡ (sum (round n v s .balance) n + r .deficit) - (sum (r .balance) n + round n v s .deficit) = omega (arith, d, b) in
       record {
         done = e .done;
         low = omega (arith, d, b, e .low);
         high = omega (arith, d, b, e .high);
-        outlived = rw same (e .outlived);
         counted = omega (arith, round-counts s, e .counted);
       }
 

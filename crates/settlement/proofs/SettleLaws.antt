@@ -11,7 +11,7 @@ use Rattle.settlement.specs.Month.{Month, owingTo}
 use Rattle.settlement.specs.Notice.{Retained, payable}
 use Rattle.settlement.specs.Claims.{arrears, claim}
 use Rattle.settlement.specs.Rounds.{Standing, start, negativesAtZero}
-use Rattle.settlement.specs.Settling.{available, revised, scaledAbove, scaledBelow, deficit, spent, rounds, paid, held, NegativesSetToZero}
+use Rattle.settlement.specs.Settling.{available, revised, scaledAbove, scaledBelow, deficit, spent, rounds, paid, held, RevisedSumToAvailable, NegativesSetToZero, HeldByRoundingUp}
 use Rattle.settlement.proofs.ClaimLaws.{claim-le, claim-total, arrears-total-le}
 use Rattle.settlement.proofs.TierLaws.{met-le, met-all, met-exact}
 use Rattle.settlement.proofs.RoundLaws.{Backed, spread-le, spread-none, spread-ended, spread-rounds}
@@ -21,16 +21,15 @@ unfolding negativesAtZero scaledAbove scaledBelow
 negatives-set-to-zero m retained received i =
     cases-eq (λ z. z ≡ scaledAbove m retained received i) (scaledBelow m retained received i) 0 (λ _. refl) (λ some. omega (arith, pos-of-ne-zero some))
 
+pub revised-sum-to-available : RevisedSumToAvailable
+unfolding revised available
+revised-sum-to-available m retained received = met-exact (m .n) (m .to) (available m retained received) (omega arith)
+
 module _ (m : Month) (retained received : ℕ → ℕ) (sound : Retained m retained) where
   -- V_i ≤ O_i
   pub revised-le : (i : ℕ) → revised m retained received i ≤ owingTo m i
   unfolding revised
   revised-le i = met-le (m .n) (m .to) (available m retained received) i
-
-  -- revised amounts sum to the available money
-  pub revised-total : sum (revised m retained received) (m .n) ≡ available m retained received
-  unfolding revised available
-  revised-total = met-exact (m .n) (m .to) (available m retained received) (omega arith)
 
   -- a positive scaled amount is at most the claim, and at most the revised amount
   pub scaled-le-claim : (i : ℕ) → scaledAbove m retained received i ≤ claim m retained received i
@@ -107,7 +106,7 @@ module _ (m : Month) (retained received : ℕ → ℕ) (sound : Retained m retai
       arith,
       spread-ended (m .n) (revised m retained received) (scaledAbove m retained received) (deficit m retained received) scaled-backed,
       scaled-total,
-      revised-total,
+      revised-sum-to-available m retained received,
       available-exact,
       claim-total m retained received sound even fair,
     )
@@ -120,3 +119,13 @@ module _ (m : Month) (retained received : ℕ → ℕ) (sound : Retained m retai
     pub held-le : held (m .n) received (paid m retained received) ≤ m .n - 1
     unfolding held
     held-le = omega (arith, paid-near)
+
+pub held-by-rounding-up : HeldByRoundingUp
+held-by-rounding-up m retained received sound even fair = omega (
+  arith,
+  scaled-total m retained received sound,
+  revised-sum-to-available m retained received,
+  available-exact m retained received sound even fair,
+  claim-total m retained received sound even fair,
+  held-exact m retained received sound even fair,
+)

@@ -1,14 +1,18 @@
 -- Laws of an amount that is shared by weights to the last cent.
-use mathlib.Core.Path.{_≡_, refl, ap, _∙_}
+use mathlib.Core.Path.{_≡_, ap, _∙_}
+use mathlib.Core.Bool.{cond}
 use mathlib.Core.Logic.{_⊎_, inl, inr, ⊎-elim}
-use Prim.Native.Nat.{ℕ, _+_, _-_, _*_, _%_, _≤_, _<_, min}
+use Prim.Native.Nat.{ℕ, _+_, _-_, _*_, _≤_, _<_}
 use native.Mathlib.Nat.{eq-zero-or-pos, div-add-mod', mod-lt, mul-comm, add-mul, mul-le-mul-left, le-of-mul-le-mul-right, lt-of-mul-lt-mul-right}
 use native.Mathlib.Omega.{arith}
 use mathlib.Core.List.{List}
+use lib.Dec.{leb}
 use Rattle.exact.specs.Rows.{at, sum, cells}
-use Rattle.exact.proofs.RowLaws.{sum-cong, sum-mono, sum-add, sum-times, sum-const, cells-cong, holds, sum-holds}
-use Rattle.settlement.specs.Sharing.{rank, leftoverCent, floorShare, remainder, leftover, shareByWeight, Shareable, SharedToTheCent, SharesAreExact}
-use Rattle.settlement.proofs.Ranks.{cent-is, cents-total, rank-without, cent-cong}
+use Rattle.exact.proofs.Cases.{cases-le}
+use Rattle.exact.proofs.RowLaws.{sum-cong, sum-mono, sum-add, sum-times, cells-cong, holds, sum-holds}
+use Rattle.settlement.specs.Sharing.{leftoverCent, floorShare, remainder, leftover, shareByWeight, Shareable, SharesAreExact}
+use Rattle.settlement.specs.inner.Cuts.{countFrom}
+use Rattle.settlement.proofs.Ranks.{cent-is, cents-total, cent-cong, count-le, rank-past}
 
 module _ (w : ℕ → ℕ) (amount total n : ℕ) (can : Shareable w amount total n) where
   abbrev rest : ℕ → ℕ
@@ -16,7 +20,7 @@ module _ (w : ℕ → ℕ) (amount total n : ℕ) (can : Shareable w amount tota
 
   -- how many divisions have a remainder
   abbrev uneven : ℕ
-  uneven = sum (λ i. min (rest i) 1) n
+  uneven = countFrom rest n 1
 
   divided : (i : ℕ) → floorShare w amount total i * total + rest i ≡ w i * amount
   unfolding floorShare remainder
@@ -45,14 +49,14 @@ module _ (w : ℕ → ℕ) (amount total n : ℕ) (can : Shareable w amount tota
   unfolding leftover
   leftover-is = omega (arith, floors-le)
 
-  uneven-some : (i : ℕ) → rest i ≤ min (rest i) 1 * total
+  -- a remainder is below the total, and counts where it is not 0
+  uneven-some : (i : ℕ) → rest i ≤ cond (leb 1 (rest i)) 1 0 * total
   uneven-some i =
-      ⊎-elim (λ (z : rest i ≡ 0). rw z (omega arith))
-      (λ (p : 0 < rest i). let one : min (rest i) 1 ≡ 1 = omega arith in rw one (omega (arith, rest-lt i)))
-      (eq-zero-or-pos (rest i))
+      cases-le (λ z. rest i ≤ z * total) 1 (rest i) (λ p. omega (arith, rest-lt i)) (λ z. omega arith)
 
   -- not more cents are left over than divisions have a remainder
   leftover-le-uneven : leftover w amount total n ≤ uneven
+  unfolding countFrom
   leftover-le-uneven =
       le-of-mul-le-mul-right
       (omega (
@@ -60,13 +64,13 @@ module _ (w : ℕ → ℕ) (amount total n : ℕ) (can : Shareable w amount tota
         divided-all,
         add-mul (sum (floorShare w amount total) n) (leftover w amount total n) total,
         ap (λ (a : ℕ). a * total) leftover-is,
-        sum-mono rest (λ i. min (rest i) 1 * total) n (λ i _. uneven-some i),
-        sum-times (λ i. min (rest i) 1) total n,
+        sum-mono rest (λ i. cond (leb 1 (rest i)) 1 0 * total) n (λ i _. uneven-some i),
+        sum-times (λ i. cond (leb 1 (rest i)) 1 0) total n,
       ))
       (can .some)
 
   pub leftover-le : leftover w amount total n ≤ n
-  leftover-le = omega (arith, leftover-le-uneven, sum-mono (λ i. min (rest i) 1) (λ _. 1) n (λ i _. omega arith), sum-const 1 n)
+  leftover-le = omega (arith, leftover-le-uneven, count-le rest n 1)
 
   -- a share is rounded down, or it has a cent more where the division has a remainder
   share-cases : (i : ℕ) → (shareByWeight w amount total n i ≡ floorShare w amount total i)
@@ -75,7 +79,7 @@ module _ (w : ℕ → ℕ) (amount total n : ℕ) (can : Shareable w amount tota
   share-cases i =
       let is = cent-is rest n (leftover w amount total n) i in
       ⊎-elim
-      (λ (z : rest i ≡ 0). inl (omega (arith, is, leftover-le-uneven, rank-without rest n i z)))
+      (λ (z : rest i ≡ 0). inl (omega (arith, is, leftover-le-uneven, rank-past rest n 1 i (omega arith))))
       (λ (p : 0 < rest i).
       ⊎-elim (λ (z : leftoverCent rest n (leftover w amount total n) i ≡ 0). inl (omega (arith, z)))
       (λ (o : 0 < leftoverCent rest n (leftover w amount total n) i). inr (omega (arith, is, o), p))
@@ -115,7 +119,7 @@ module _ (w : ℕ → ℕ) (amount total n : ℕ) (can : Shareable w amount tota
 
 pub shares-are-exact : SharesAreExact
 shares-are-exact w amount total n can = record {
-  whole = share-total w amount total n can;
+  all-shared = share-total w amount total n can;
   within = share-within w amount total n can;
   less-above = λ i. share-near w amount total n can i .0;
   less-below = λ i. share-near w amount total n can i .1;

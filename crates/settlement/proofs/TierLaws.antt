@@ -33,7 +33,7 @@ module _ (n : ℕ) (w : ℕ → ℕ) (left : ℕ) where
 
   -- a tier that is not met shares all that is left
   share-unmet-total : left < sum w n → sum (share n w left) n ≡ left
-  share-unmet-total h = sum-cong _ _ n (λ i _. share-unmet h i) ∙ shares-are-exact w left (sum w n) n (unmet-shareable h) .whole
+  share-unmet-total h = sum-cong _ _ n (λ i _. share-unmet h i) ∙ shares-are-exact w left (sum w n) n (unmet-shareable h) .all-shared
 
   pub share-nothing : left ≡ 0 → (i : ℕ) → i < n → share n w left i ≡ 0
   share-nothing e i h =

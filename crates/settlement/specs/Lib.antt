@@ -11,3 +11,4 @@ pub mod Examples
 pub mod GroupExamples
 pub mod ClauseExamples
 pub mod SharingExamples
+pub mod inner

@@ -1,9 +1,9 @@
 -- Available money, revised, scaled and paid amounts (01, Settlement, steps 2 to 5; 14.57 to 14.59).
-use Prim.Native.Nat.{ℕ, _+_, _-_}
+use Prim.Native.Nat.{ℕ, _+_, _-_, _≤_, _<_}
 use mathlib.Core.Path.{_≡_}
 use Rattle.exact.specs.Rows.{sum, cells}
 use Rattle.settlement.specs.Month.{Month, owingTo}
-use Rattle.settlement.specs.Notice.{Retained}
+use Rattle.settlement.specs.Notice.{Retained, payable}
 use Rattle.settlement.specs.Claims.{arrears, claim}
 use Rattle.settlement.specs.Tiers.{met}
 use Rattle.settlement.specs.Rounds.{Standing, negativesAtZero, spread, Suffice}
@@ -68,6 +68,10 @@ SettlementEnds =
     (m : Month) (retained received : ℕ → ℕ) → Retained m retained
     → Suffice (m .n) (revised m retained received) (scaledAbove m retained received) (deficit m retained received)
 
+-- revised amounts sum to the available money (02, g)
+abbrev pub RevisedSumToAvailable : Type 0
+RevisedSumToAvailable = (m : Month) (retained received : ℕ → ℕ) → sum (revised m retained received) (m .n) ≡ available m retained received
+
 -- 14.59(4)(a) leaves the scaled amounts that are positive, and 0 for those that are negative: where the rounds of `spent` start
 abbrev pub NegativesSetToZero : Type 0
 NegativesSetToZero =
@@ -77,3 +81,12 @@ NegativesSetToZero =
 -- held money: received − paid
 unfoldable pub held : ℕ → (ℕ → ℕ) → (ℕ → ℕ) → ℕ
 held n received paid = sum received n - sum paid n
+
+-- equal sides, and nobody has paid more than is payable: held money is what the rounds took from the positive scaled amounts beyond
+-- the deficit, by rounding up (02, g)
+abbrev pub HeldByRoundingUp : Type 0
+HeldByRoundingUp =
+    (m : Month) (retained received : ℕ → ℕ) → Retained m retained → sum (m .by) (m .n) ≡ sum (owingTo m) (m .n)
+    → ((i : ℕ) → i < m .n → received i ≤ payable m retained i)
+    → sum (scaledAbove m retained received) (m .n)
+    ≡ sum (paid m retained received) (m .n) + deficit m retained received + held (m .n) received (paid m retained received)

@@ -3,7 +3,7 @@
 use Prim.Native.Nat.{ℕ, _+_, _-_, _*_, _/_, _%_, _≤_, _<_}
 use mathlib.Core.Path.{_≡_}
 use mathlib.Core.Bool.{cond}
-use lib.Dec.{eqb, ltb, leb}
+use lib.Dec.{eqb, ltb}
 use Rattle.exact.specs.Rows.{sum}
 
 -- participants in the order of their remainders
@@ -48,7 +48,7 @@ module _ (w : ℕ → ℕ) (amount total : ℕ) where
 -- no cent is left over, no share is above its weight, and each differs from the exact share, weight × amount / total, by less
 -- than a cent
 pub record SharedToTheCent (w : ℕ → ℕ) (amount total n : ℕ) : Type 0 where
-  pub whole : sum (shareByWeight w amount total n) n ≡ amount
+  pub all-shared : sum (shareByWeight w amount total n) n ≡ amount
   pub within : (i : ℕ) → shareByWeight w amount total n i ≤ w i
   pub less-above : (i : ℕ) → shareByWeight w amount total n i * total < w i * amount + total
   pub less-below : (i : ℕ) → w i * amount < shareByWeight w amount total n i * total + total
@@ -72,14 +72,3 @@ OrderAmongEqualsAlone =
     (w : ℕ → ℕ) (amount total n : ℕ) (r : Renumbering n) (i : ℕ) → i < n
     → ((j : ℕ) → j < n → remainder w amount total j ≡ remainder w amount total i → ltb (r .to j) (r .to i) ≡ ltb j i)
     → shareByWeight (λ k. w (r .from k)) amount total n (r .to i) ≡ shareByWeight w amount total n i
-
--- of n remainders, how many are at least so much
-unfoldable pub countFrom : (ℕ → ℕ) → ℕ → ℕ → ℕ
-countFrom remainders n least = sum (λ j. cond (leb least (remainders j)) 1 0) n
-
--- with so many cents left over, the cut among n remainders is above `low` and not above `least`: from `least` on they are not more
--- than there are cents, and from `low` on not fewer
-pub record CutBetween (remainders : ℕ → ℕ) (n leftover low least : ℕ) : Type 0 where
-  pub apart : low < least
-  pub few : countFrom remainders n least ≤ leftover
-  pub enough : leftover ≤ countFrom remainders n low

@@ -40,11 +40,15 @@ pub record SharingExamples : Type 0 where
   pub last-a : (table lastA 3 ≡ 0 ∷ 155 ∷ 45 ∷ []) × (held 3 (at (600 ∷ 0 ∷ 334 ∷ [])) (λ i. paidThen i + lastA i) ≡ 0)
   -- two cents for three equal remainders: the lower numbers have them
   pub equal : shares (1 ∷ 1 ∷ 1 ∷ []) 2 ≡ 1 ∷ 1 ∷ 0 ∷ []
+  -- so they are where the equal remainders are of unlike weights
+  pub unlike : (remainders (1 ∷ 3 ∷ []) 2 ≡ 2 ∷ 2 ∷ []) × (shares (1 ∷ 3 ∷ []) 2 ≡ 1 ∷ 1 ∷ [])
   -- one cent for the largest remainder, and one for the first of three equal ones, whatever their places
   pub cut : (remainders (5 ∷ 3 ∷ 3 ∷ 3 ∷ []) 11 ≡ 13 ∷ 5 ∷ 5 ∷ 5 ∷ []) × (shares (5 ∷ 3 ∷ 3 ∷ 3 ∷ []) 11 ≡ 4 ∷ 3 ∷ 2 ∷ 2 ∷ [])
   pub moved : shares (3 ∷ 3 ∷ 5 ∷ 3 ∷ []) 11 ≡ 3 ∷ 2 ∷ 4 ∷ 2 ∷ []
   -- a division without a remainder has no cent, though its weight is the largest; the largest remainder is that of the smallest
   pub without : (remainders (7 ∷ 2 ∷ 5 ∷ []) 6 ≡ 0 ∷ 12 ∷ 2 ∷ []) × (shares (7 ∷ 2 ∷ 5 ∷ []) 6 ≡ 3 ∷ 1 ∷ 2 ∷ [])
+  -- one participant alone has all
+  pub alone : shares (7 ∷ []) 5 ≡ 5 ∷ []
   -- a cent less than the weights come to, all of it, and nothing
   pub but-one : shares (1 ∷ 1 ∷ 1 ∷ 1 ∷ []) 3 ≡ 1 ∷ 1 ∷ 1 ∷ 0 ∷ []
   pub all : shares (7 ∷ 2 ∷ 5 ∷ []) 14 ≡ 7 ∷ 2 ∷ 5 ∷ []

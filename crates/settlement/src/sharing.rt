@@ -10,14 +10,15 @@ ghost use mathlib.Core.Path.{_≡_};
 ghost use mathlib.Core.Bool.{cond};
 ghost use lib.Dec.{eqb, leb};
 ghost use Prim.Native.Nat.{ℕ, _+_, _-_, _≤_, _<_, min};
-ghost use Rattle.exact.specs.Rows.{places, at, sum, cells};
+ghost use Rattle.exact.specs.Rows.{places, at, cells};
 ghost use Rattle.settlement.specs.Month.{sideLimit};
-ghost use Rattle.settlement.specs.Sharing.{floorShare, remainder, leftoverCent, shareByWeight, Shareable, countFrom, CutBetween};
+ghost use Rattle.settlement.specs.Sharing.{floorShare, remainder, leftoverCent, shareByWeight, Shareable};
+ghost use Rattle.settlement.specs.inner.Cuts.{countFrom, CutBetween};
 
 // Shares rounded down, with the remainders of their divisions.
-pub struct Divided {
-    pub cents: Row,
-    pub remainders: Row,
+struct Divided {
+    cents: Row,
+    remainders: Row,
 }
 
 // Two remainders between which the cut is: above `low`, and not above `least`.
@@ -48,7 +49,7 @@ fn floor_shares(weights: Row, amount: u64, whole: u64, n: usize) -> Divided
 }
 
 // 1 where a remainder is at least so much, else 0.
-fn is_from(remainder: u64, least: u64) -> u64
+fn one_from(remainder: u64, least: u64) -> u64
     ensures { λ r. ⌜ r ≡ cond (leb least remainder) 1 0 ⌝ }
 {
     if least <= remainder { 1 } else { 0 }
@@ -61,7 +62,7 @@ fn count_from(remainders: &Row, least: u64, n: usize) -> u64
 {
     let mut count = 0u64;
     for i in 0..n {
-        count += is_from(remainders[i], least);
+        count += one_from(remainders[i], least);
     }
     count
 }
@@ -84,8 +85,8 @@ fn narrowed(low: u64, least: u64, middle: u64, count: u64, leftover: u64) -> Bet
     }
 }
 
-// The cut among n remainders below `whole`, found by halving: whoever has at least so much gets one of the leftover cents, and no
-// cent goes to less than a whole below it.
+// The cut among n remainders below `whole`, found by halving: whoever has at least so much gets a cent; of those with just one
+// less the first get the cents that are spare, and nobody below gets one.
 fn cut(remainders: &Row, leftover: u64, whole: u64, n: usize) -> u64
     requires { ⌜ (n ≤ places) × (leftover ≤ n) × (0 < whole) × (whole ≤ sideLimit) × ((i : ℕ) → i < n → at (now remainders) i < whole) ⌝ }
     ensures { λ r. ⌜ CutBetween (at (now (remainders .entry))) n leftover (r - 1) r ⌝ }
@@ -119,7 +120,7 @@ fn cent_for(remainder: u64, least: u64, spare: u64) -> Given
     }
 }
 
-// Shares with their leftover cents, where the cut among the remainders is at `least` and `above` of them are from there on.
+// Shares with their leftover cents, where the cut among the remainders is at `least`.
 fn with_leftover(d: Divided, leftover: u64, least: u64, n: usize) -> Row
     requires { ⌜ (n ≤ places) × CutBetween (at (d .remainders)) n leftover (least - 1) least × ((i : ℕ) → i < n → at (d .cents) i ≤ sideLimit) ⌝ }
     ensures { λ r. ⌜ r ≡ cells (λ i. at (d .cents) i + leftoverCent (at (d .remainders)) n leftover i) n ⌝ }

@@ -23,7 +23,7 @@ fn tier_share(wanted: Row, left: u64, whole: u64, n: usize) -> Row
     if whole <= left {
         return wanted;
     }
-    // Tiers after one that was not met get nothing, and no division is needed to find that.
+    // Nothing is left: every share is 0, and no division is needed to find that.
     if left == 0 {
         return [0u64; PLACES];
     }

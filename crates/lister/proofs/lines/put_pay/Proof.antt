@@ -10,7 +10,7 @@ use Rattle.lister.proofs.lines.put_pay.Tie as tie
 returns : tie.Need-returns
 unfolding payLine
 returns c =
-    let none : c .before .args .cents ≡ 0 = c .if1 .taken in
+    let none : c .before .before .args .cents ≡ 0 = c .if1 .taken in
     (rw (eq-eqb _ _ none) (puts-none _ _), search needs)
 
 slice-aggregate-put-bytes : tie.Need-slice-aggregate-put-bytes

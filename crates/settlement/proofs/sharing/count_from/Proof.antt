@@ -3,7 +3,7 @@ use Prim.Native.Nat.{ℕ, _+_, _-_, _≤_}
 use mathlib.Core.Path.{_≡_, sym, ap, _∙_}
 use native.Mathlib.Omega.{arith}
 use Rattle.exact.specs.Rows.{at}
-use Rattle.settlement.specs.Sharing.{countFrom}
+use Rattle.settlement.specs.inner.Cuts.{countFrom}
 use Rattle.settlement.proofs.Ranks.{count-none, count-more, count-le}
 use Rattle.settlement.proofs.sharing.count_from.Statement.{statement}
 use Rattle.settlement.proofs.sharing.count_from.Tie as tie
@@ -17,22 +17,22 @@ abbrev μ-loop : tie.MeasureT-loop
 loop-holds : tie.Need-loop-holds Inv-loop μ-loop
 loop-holds c = (search needs, sym (count-none _ _))
 
-mul-is-from : tie.Need-mul-is-from Inv-loop μ-loop
-mul-is-from c = search needs
+mul-one-from : tie.Need-mul-one-from Inv-loop μ-loop
+mul-one-from c = search needs
 
-element-copy-out-is-from : tie.Need-element-copy-out-is-from Inv-loop μ-loop
-element-copy-out-is-from c = search needs
+element-copy-out-one-from : tie.Need-element-copy-out-one-from Inv-loop μ-loop
+element-copy-out-one-from c = search needs
 
-is-from-requires : tie.Need-is-from-requires Inv-loop μ-loop
-is-from-requires c κs = search needs
+one-from-requires : tie.Need-one-from-requires Inv-loop μ-loop
+one-from-requires c κs = search needs
 
 -- the count with the next remainder
-count-next : (c : tie.After-is-from Inv-loop μ-loop) → let l = c .before .before .before .loop in let x = c .before .before .before .before .args in
-    l .count + c .is-from .result ≡ countFrom (at (x .remainders .now)) (l .i + 1) (x .least)
+count-next : (c : tie.After-one-from Inv-loop μ-loop) → let l = c .before .before .before .loop in let x = c .before .before .before .before .args in
+    l .count + c .one-from .result ≡ countFrom (at (x .remainders .now)) (l .i + 1) (x .least)
 count-next c =
     let l = c .before .before .before .loop in
     let x = c .before .before .before .before .args in
-    omega (arith, c .is-from .ensures, l .inv .1, count-more (at (x .remainders .now)) (l .i) (x .least))
+    omega (arith, c .one-from .ensures, l .inv .1, count-more (at (x .remainders .now)) (l .i) (x .least))
 
 add-count : tie.Need-add-count Inv-loop μ-loop
 add-count c =
@@ -61,9 +61,9 @@ count-from-spec =
     Inv-loop
     μ-loop
     loop-holds
-    mul-is-from
-    element-copy-out-is-from
-    is-from-requires
+    mul-one-from
+    element-copy-out-one-from
+    one-from-requires
     add-count
     add-i
     loop-less

@@ -3,7 +3,7 @@ use Prim.Native.Nat.{_-_, _≤_}
 use mathlib.Core.Path.{_≡_, ap}
 use native.Mathlib.Omega.{arith}
 use Rattle.exact.specs.Rows.{at}
-use Rattle.settlement.specs.Sharing.{countFrom, CutBetween}
+use Rattle.settlement.specs.inner.Cuts.{countFrom, CutBetween}
 use Rattle.settlement.proofs.Ranks.{count-all, count-past}
 use Rattle.settlement.proofs.sharing.cut.Statement.{statement}
 use Rattle.settlement.proofs.sharing.cut.Tie as tie

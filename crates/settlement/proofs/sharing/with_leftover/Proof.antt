@@ -1,10 +1,11 @@
 use borrow.Author.Needs.{needs}
-use Prim.Native.Nat.{ℕ, _+_, _-_, _≤_, _<_}
+use Prim.Native.Nat.{_+_, _-_, _≤_}
 use mathlib.Core.Path.{_≡_, sym, ap, _∙_}
 use native.Mathlib.Omega.{arith}
 use Rattle.exact.specs.Rows.{at, sum, cells}
 use Rattle.exact.proofs.RowLaws.{cells-none, cells-more, sum-none, sum-more}
-use Rattle.settlement.specs.Sharing.{leftoverCent, countFrom}
+use Rattle.settlement.specs.Sharing.{leftoverCent}
+use Rattle.settlement.specs.inner.Cuts.{countFrom}
 use Rattle.settlement.proofs.Ranks.{equals, cent-is, cut-cent}
 use Rattle.settlement.proofs.sharing.with_leftover.Statement.{statement}
 use Rattle.settlement.proofs.sharing.with_leftover.Tie as tie

@@ -1,6 +1,4 @@
-use borrow.Author.Needs.{needs}
 use mathlib.Core.Path.{sym, _∙_}
-use native.Mathlib.Omega.{arith}
 use Rattle.exact.proofs.RowLaws.{cells-cong, cells-zero}
 use Rattle.settlement.proofs.TierLaws.{share-met, share-unmet, share-nothing, unmet-shareable}
 use Rattle.settlement.proofs.walk.tier_share.Statement.{statement}
