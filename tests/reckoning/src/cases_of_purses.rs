@@ -8,15 +8,15 @@ use crate::refusals::*;
 const BOUND: u128 = MOST_CENTS as u128;
 
 /// Of payer 0's 600 cents 300 come before the period is opened. From the settle entry on it is
-/// month A of 01, where they come as a receipt: 566 and 67, then 78 and 22, then 156 and 45.
+/// month A, where they come as a receipt: 567 and 67, then 78 and 22, then 155 and 45.
 fn a_part() -> Vec<Step> {
     let mut steps = vec![stands(Entry::purse(0, 300), 300)];
     steps.extend(month_a(7, 300));
     steps.extend([
         stands(Entry::receipt(7, 2, 334), 634),
-        pays(Entry::settle(7), [0, 566, 67], 1),
-        pays(Entry::receipt(7, 0, 100), [0, 78, 22], 1),
-        pays(Entry::receipt(7, 0, 200), [0, 156, 45], 0),
+        pays(Entry::settle(7), [0, 567, 67], 0),
+        pays(Entry::receipt(7, 0, 100), [0, 78, 22], 0),
+        pays(Entry::receipt(7, 0, 200), [0, 155, 45], 0),
     ]);
     steps
 }
@@ -33,7 +33,8 @@ fn all() -> Vec<Step> {
 }
 
 /// 600 of 1,000 are drawn, and the second period has the 400 that stay. With 200 in arrears 800 are
-/// available, 700 after tier 1: 544 of 700 and 155 of 200. Paid are 644 and 134 − 45; a cent stays.
+/// available, 700 after tier 1: 544 4/9 of 700 and 155 5/9 of 200, whose remainder is larger: 156.
+/// Paid are 644 and 134 − 44.
 fn more_and_a_second_period() -> Vec<Step> {
     let mut steps = vec![stands(Entry::purse(0, 1_000), 1_000)];
     steps.extend(month_a(7, 1_000));
@@ -44,15 +45,16 @@ fn more_and_a_second_period() -> Vec<Step> {
     steps.extend(month_a(8, 400));
     steps.extend([
         stands(Entry::receipt(8, 2, 334), 734),
-        pays(Entry::settle(8), [0, 644, 89], 1),
-        refused(Entry::receipt(8, 0, 201), RECEIPT_ABOVE, 1),
-        pays(Entry::receipt(8, 0, 200), [0, 156, 45], 0),
+        pays(Entry::settle(8), [0, 644, 90], 0),
+        refused(Entry::receipt(8, 0, 201), RECEIPT_ABOVE, 0),
+        pays(Entry::receipt(8, 0, 200), [0, 156, 44], 0),
     ]);
     steps
 }
 
 /// The period that settles first takes all 600. In the other 600 are in arrears: 400 are available,
-/// 300 after tier 1: 233 of 700 and 66 of 200. Paid are 333 and 134 − 134; a cent stays.
+/// 300 after tier 1: 233 1/3 of 700 and 66 2/3 of 200, which come to 233 and 67. Paid are 333 and
+/// 134 − 133.
 fn two_periods_and_one_purse() -> Vec<Step> {
     let mut steps = month_a(1, 0);
     steps.extend(month_a(2, 0));
@@ -61,9 +63,9 @@ fn two_periods_and_one_purse() -> Vec<Step> {
         stands(Entry::receipt(2, 2, 334), 668),
         stands(Entry::purse(0, 600), 1_268),
         pays(Entry::settle(2), [0, 800, 134], 334),
-        pays(Entry::settle(1), [0, 333, 0], 1),
-        refused(Entry::receipt(1, 0, 601), RECEIPT_ABOVE, 1),
-        pays(Entry::receipt(1, 0, 600), [0, 467, 134], 0),
+        pays(Entry::settle(1), [0, 333, 1], 0),
+        refused(Entry::receipt(1, 0, 601), RECEIPT_ABOVE, 0),
+        pays(Entry::receipt(1, 0, 600), [0, 467, 133], 0),
     ]);
     steps
 }
@@ -82,18 +84,18 @@ fn nothing_unpaid() -> Vec<Step> {
     steps
 }
 
-/// 200 are received and 300 drawn; 100 are in arrears. 900 are available, 800 after tier 1: 622 of
-/// 700 and 177 of 200. Paid are 722 and 134 − 23; a cent stays.
+/// 200 are received and 300 drawn; 100 are in arrears. 900 are available, 800 after tier 1: 622 2/9
+/// of 700 and 177 7/9 of 200, which come to 622 and 178. Paid are 722 and 134 − 22.
 fn beside_a_receipt() -> Vec<Step> {
     let mut steps = month_a(7, 0);
     steps.extend([
         stands(Entry::receipt(7, 0, 200), 200),
         stands(Entry::purse(0, 300), 500),
         stands(Entry::receipt(7, 2, 334), 834),
-        pays(Entry::settle(7), [0, 722, 111], 1),
-        refused(Entry::receipt(7, 0, 101), RECEIPT_ABOVE, 1),
-        refused(Entry::receipt(7, 2, 1), RECEIPT_ABOVE, 1),
-        pays(Entry::receipt(7, 0, 100), [0, 78, 23], 0),
+        pays(Entry::settle(7), [0, 722, 112], 0),
+        refused(Entry::receipt(7, 0, 101), RECEIPT_ABOVE, 0),
+        refused(Entry::receipt(7, 2, 1), RECEIPT_ABOVE, 0),
+        pays(Entry::receipt(7, 0, 100), [0, 78, 22], 0),
     ]);
     steps
 }
@@ -107,16 +109,16 @@ fn past_the_arrears() -> Vec<Step> {
     steps
 }
 
-/// With 100 drawn 134 are set off and 100 in arrears. V is 722 and 177; payer 2's claim of 0 is
-/// scaled to −23, which participant 1 loses in one round: 699 of the 700 received are paid.
+/// With 100 drawn 134 are set off and 100 in arrears. V is 722 and 178; payer 2's claim of 0 is
+/// scaled to −22, which participant 1 loses in one round: all 700 received are paid.
 fn a_part_before_set_off() -> Vec<Step> {
     let mut steps = month_a(7, 0);
     steps.extend([
         stands(Entry::receipt(7, 0, 600), 600),
         stands(Entry::purse(2, 100), 700),
-        pays(Entry::settle(7), [0, 699, 0], 1),
-        refused(Entry::receipt(7, 2, 101), RECEIPT_ABOVE, 1),
-        pays(Entry::receipt(7, 2, 100), [0, 101, 0], 0),
+        pays(Entry::settle(7), [0, 700, 0], 0),
+        refused(Entry::receipt(7, 2, 101), RECEIPT_ABOVE, 0),
+        pays(Entry::receipt(7, 2, 100), [0, 100, 0], 0),
     ]);
     steps
 }
@@ -160,9 +162,9 @@ fn at_every_stage() -> Vec<Step> {
     steps.extend([
         stands(Entry::purse(0, 100), 300),
         stands(Entry::receipt(7, 2, 334), 634),
-        pays(Entry::settle(7), [0, 566, 67], 1),
-        stands(Entry::purse(0, 50), 51),
-        pays(Entry::receipt(7, 0, 300), [0, 234, 67], 50),
+        pays(Entry::settle(7), [0, 567, 67], 0),
+        stands(Entry::purse(0, 50), 50),
+        pays(Entry::receipt(7, 0, 300), [0, 233, 67], 50),
         stands(Entry::purse(0, 50), 100),
     ]);
     steps

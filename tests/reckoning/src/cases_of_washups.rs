@@ -21,22 +21,22 @@ fn paid_to_1(period: u32, cents: u64) -> Vec<Step> {
     ]
 }
 
-/// What month A of 01, period 7, comes to after its notice.
+/// What month A, period 7, comes to after its notice.
 fn month_a_from_notice() -> [Step; 7] {
     [
         refused(Entry::receipt(7, 0, 601), RECEIPT_ABOVE, 0),
         stands(Entry::receipt(7, 0, 300), 300),
         refused(Entry::receipt(7, 2, 335), RECEIPT_ABOVE, 300),
         stands(Entry::receipt(7, 2, 334), 634),
-        pays(Entry::settle(7), [0, 566, 67], 1),
-        pays(Entry::receipt(7, 0, 100), [0, 78, 22], 1),
-        pays(Entry::receipt(7, 0, 200), [0, 156, 45], 0),
+        pays(Entry::settle(7), [0, 567, 67], 0),
+        pays(Entry::receipt(7, 0, 100), [0, 78, 22], 0),
+        pays(Entry::receipt(7, 0, 200), [0, 155, 45], 0),
     ]
 }
 
 /// All of month A but its tier 1 by washups: up on sides 0 and 1, and down on both. 3 and 2 kWh at
 /// 173,913 are 599.99985 and 399.9999 cents, 8 at 76,087 are 700.0004, 3 at 57,971 are 199.99995.
-/// It is the listing of 01 just where side 1 is tier 5, as stated and as the other side.
+/// It is month A's listing just where side 1 is tier 5, as stated and as the other side.
 fn month_a_by_washups() -> Vec<Step> {
     let mut steps = vec![
         stands(Entry::open(7), 0),
@@ -182,7 +182,7 @@ fn earlier_periods() -> Vec<Step> {
 }
 
 /// Period 7, month A, is before its notice while period 8 has washups of it, up and down on both
-/// sides: 46 cents by 0 and to 1, all in period 8. Then 7 comes to what its own entries do in 01.
+/// sides: 46 cents by 0 and to 1, all in period 8. Then 7 comes to what its own entries do.
 fn of_a_period_before_its_notice() -> Vec<Step> {
     let mut steps = month_a(7, 0);
     let notice = steps.pop().expect("month A ends with its notice");

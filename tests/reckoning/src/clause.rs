@@ -97,20 +97,20 @@ fn two_rounds_by_paragraphs() {
     }
 }
 
-/// The settlement's step 4 gives the clause's answer, in months of every number of rounds.
+/// The settlement's step 4 gives the clause's answer, in months of every number of rounds. The scaled
+/// amounts sum up to what was received, so that a negative one is never without a positive balance.
 #[test]
 fn the_settlement_goes_by_the_clause() {
-    // No negative amount; one, but no positive balance; one round; two; three or more.
-    let mut seen = [0; 5];
+    // No negative amount; one round; two; three or more.
+    let mut seen = [0; 4];
     for (seed, month) in random_months().enumerate() {
         let scaled = scaled_of(&month);
+        let received: u128 = month.received.iter().sum();
+        assert_eq!(scaled.iter().sum::<i128>(), received as i128, "seed {seed}");
         let answer = by_clause(&scaled, &month.revised);
         assert_eq!(answer, (month.paid, month.rounds), "seed {seed}");
-        let place = match scaled.iter().any(|&amount| amount < 0) {
-            false => 0,
-            true => 1 + month.rounds.min(3) as usize,
-        };
-        seen[place] += 1;
+        assert_eq!(month.rounds > 0, scaled.iter().any(|&amount| amount < 0), "seed {seed}");
+        seen[month.rounds.min(3) as usize] += 1;
     }
     assert!(seen.iter().all(|&count| count > 0), "{seen:?}");
 }

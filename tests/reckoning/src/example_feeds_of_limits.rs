@@ -11,8 +11,9 @@ use crate::refusals::{NOT_ABOVE_HIGHEST, N_REFUSED, PERIODS_AT_LIMIT};
 /// Of the 350 there, tier 1 takes 100 and tier 5 250 of 400, 125 each. Period 2 is energy of 230 cents,
 /// from 0 to 3; payer 0 has sent 250 early. Period 3 has 92 cents, 322 less 230: owing by 1, where the
 /// quantity went up, and owing to 3, where it went down.
-/// Then three periods are in the book. 75 late in period 1 are 37 each, and a cent is held; the other 75
-/// and the cent are 38 each. Period 2 draws 230 of the 250, and 20 stay.
+/// Then three periods are in the book. 75 late in period 1 are 37 1/2 for 2 and for 3; the remainders
+/// are equal, and the leftover cent goes to 2. The other 75 are 37 and 38. Period 2 draws 230 of the
+/// 250, and 20 stay.
 pub fn class() -> Case<4> {
     let steps = vec![
         stands(Entry::open(1), 0),
@@ -33,10 +34,10 @@ pub fn class() -> Case<4> {
         stands(Entry::open(3), 250),
         stands(Entry::washup(3, 1, 1, 0, 10, 14, 20_000), 250),
         stands(Entry::washup(3, 2, 3, 0, 14, 10, 20_000), 250),
-        pays(Entry::receipt(1, 1, 75), [0, 0, 37, 37], 251),
-        pays(Entry::settle(2), [0, 0, 0, 230], 21),
-        stands(Entry::notice(3), 21),
-        pays(Entry::receipt(1, 1, 75), [0, 0, 38, 38], 20),
+        pays(Entry::receipt(1, 1, 75), [0, 0, 38, 37], 250),
+        pays(Entry::settle(2), [0, 0, 0, 230], 20),
+        stands(Entry::notice(3), 20),
+        pays(Entry::receipt(1, 1, 75), [0, 0, 37, 38], 20),
         stands(Entry::receipt(3, 1, 92), 112),
         pays(Entry::settle(3), [0, 0, 0, 92], 20),
     ];
@@ -144,8 +145,8 @@ mod tests {
         let text = "entry answer paid held\n1 0 0 0\n2 0 0 0\n3 0 0 0\n4 0 0 0\n5 0 0 0\n6 0 0 0\n\
                     7 0 0 0\n8 0 0 300\n9 0 0 350\n10 0 350 0\npay 2 225\npay 3 125\n11 0 0 0\n\
                     12 0 0 0\n13 0 0 0\n14 0 0 250\n15 0 0 250\n16 0 0 250\n17 0 0 250\n18 0 0 250\n\
-                    19 0 74 251\npay 2 37\npay 3 37\n20 0 230 21\npay 3 230\n21 0 0 21\n\
-                    22 0 76 20\npay 2 38\npay 3 38\n23 0 0 112\n24 0 92 20\npay 3 92\n";
+                    19 0 75 250\npay 2 38\npay 3 37\n20 0 230 20\npay 3 230\n21 0 0 20\n\
+                    22 0 75 20\npay 2 37\npay 3 38\n23 0 0 112\n24 0 92 20\npay 3 92\n";
         for limits in [DEMONSTRATION, MARKET] {
             let found = listing_within(limits, &class().feed());
             assert_eq!(String::from_utf8(found).unwrap(), text, "{limits:?}");

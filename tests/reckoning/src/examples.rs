@@ -1,5 +1,5 @@
 //! The reckoned examples of 01, those with * and the others, but for the product 30,000, whose cents
-//! 02, b, changed.
+//! 02, b, changed. What month A pays is reckoned afresh by 02, g.
 
 use crate::book::Book;
 use crate::calls;
@@ -49,15 +49,15 @@ fn month_a_settlement_and_late_money() {
     let sums = month_a();
     let notice = month::notice(&sums, &Making::alone(3));
     let settled = month::settle(&sums, &notice, &[300, 0, 334]);
-    assert_eq!(settled.paid, [0, 566, 67]);
+    assert_eq!(settled.paid, [0, 567, 67]);
     assert_eq!(settled.rounds, 0);
     let claim = settled.step_one.claim;
     let mut paid = settled.paid;
-    let first = month::late_payments(&month::shortages(&sums, &claim, &paid), 1 + 100);
+    let first = month::late_payments(&month::shortages(&sums, &claim, &paid), 100);
     assert_eq!(first, [0, 78, 22]);
     paid.iter_mut().zip(&first).for_each(|(paid, more)| *paid += more);
-    let second = month::late_payments(&month::shortages(&sums, &claim, &paid), 1 + 200);
-    assert_eq!(second, [0, 156, 45]);
+    let second = month::late_payments(&month::shortages(&sums, &claim, &paid), 200);
+    assert_eq!(second, [0, 155, 45]);
     paid.iter_mut().zip(&second).for_each(|(paid, more)| *paid += more);
     assert_eq!(paid, claim);
 }
@@ -150,8 +150,8 @@ fn a_side_at_its_bound_stands_and_a_cent_more_is_11() {
 #[test]
 fn listing_of_month_a() {
     let text = "entry answer paid held\n1 0 0 0\n2 0 0 0\n3 0 0 0\n4 0 0 0\n5 0 0 0\n6 0 0 0\n7 0 0 0\n\
-                8 0 0 300\n9 0 0 634\n10 0 633 1\npay 1 566\npay 2 67\n11 0 100 1\npay 1 78\npay 2 22\n\
-                12 0 201 0\npay 1 156\npay 2 45\n";
+                8 0 0 300\n9 0 0 634\n10 0 634 0\npay 1 567\npay 2 67\n11 0 100 0\npay 1 78\npay 2 22\n\
+                12 0 200 0\npay 1 155\npay 2 45\n";
     assert_eq!(String::from_utf8(listing(&feeds::month_a())).unwrap(), text);
 }
 

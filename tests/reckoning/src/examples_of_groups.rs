@@ -151,7 +151,7 @@ fn groups_of_one_give_the_retention_of_01() {
 }
 
 /// Month A where payers 0 and 2 are related: 800 against the 700 of G that 1 has, so that all is
-/// retained. Payer 0 pays 300 of 600. V is 566 and 133; a cent stays held until the late 300.
+/// retained. Payer 0 pays 300 of 600. V is 567 and 133, and the late 300 are 233 and 67.
 #[test]
 fn month_a_with_related_payers() {
     let mut book = Book::make(&making([2, 0, 2], &[])).0;
@@ -166,8 +166,8 @@ fn month_a_with_related_payers() {
     assert_eq!(answer(Entry::receipt(7, 2, 401)).0, 13);
     assert_eq!(answer(Entry::receipt(7, 2, 400)), (0, [0; 3], 400));
     assert_eq!(answer(Entry::receipt(7, 0, 300)), (0, [0; 3], 700));
-    assert_eq!(answer(Entry::settle(7)), (0, [0, 566, 133], 1));
+    assert_eq!(answer(Entry::settle(7)), (0, [0, 567, 133], 0));
     assert_eq!(answer(Entry::receipt(7, 0, 301)).0, 13);
-    assert_eq!(answer(Entry::receipt(7, 0, 300)), (0, [0, 234, 67], 0));
+    assert_eq!(answer(Entry::receipt(7, 0, 300)), (0, [0, 233, 67], 0));
     assert_eq!(answer(Entry::settle(7)).0, 8);
 }

@@ -109,7 +109,8 @@ fn the_smaller_of_purse_and_unpaid_is_drawn() {
 
 /// Month A where payers 0 and 2 are related: all of G is retained, and 600 and 400 are payable. The
 /// reserve of a group and the purses change neither. 400 and 200 are drawn: 400 in arrears leave
-/// 600, 500 after tier 1: 388 of 700 and 111 of 200. Paid are 488 and 200 − 89; a cent stays.
+/// 600, 500 after tier 1: 388 8/9 of 700 and 111 1/9 of 200, which come to 389 and 111. Paid are 489
+/// and 200 − 89.
 #[test]
 fn related_payers_draw_up_to_what_is_payable_in_groups() {
     let mut making = Making::alone(3);
@@ -126,7 +127,7 @@ fn related_payers_draw_up_to_what_is_payable_in_groups() {
         assert_eq!(answer(entry), (0, [0; 3], 500));
     }
     assert_eq!(answer(Entry::purse(0, 200)), (0, [0; 3], 700));
-    assert_eq!(answer(Entry::settle(7)), (0, [0, 488, 111], 101));
+    assert_eq!(answer(Entry::settle(7)), (0, [0, 489, 111], 100));
     assert_eq!(answer(Entry::receipt(7, 0, 401)).0, 13);
-    assert_eq!(answer(Entry::receipt(7, 0, 400)), (0, [0, 312, 89], 100));
+    assert_eq!(answer(Entry::receipt(7, 0, 400)), (0, [0, 311, 89], 100));
 }

@@ -1,4 +1,4 @@
-//! A reckoning of 01, with requests a to f of 02, on u128, written from the rules alone. It
+//! A reckoning of 01, with requests a to g of 02, on u128, written from the rules alone. It
 //! shares no code and no definitions with the clearing book that is tested by it.
 
 mod accounts;
@@ -57,6 +57,7 @@ mod revisions;
 pub mod rounds;
 pub mod same_payouts;
 pub mod selftest;
+pub mod sharing;
 mod sights_of_washups;
 pub mod soak;
 pub mod totals;
