@@ -69,7 +69,9 @@ impl Account {
         let held = receipts - paid;
         let claims = sum(&step.claim);
         check(claims == arrears + held + paid, "unpaid claims are not arrears plus held money")?;
-        check(held <= 2 * (self.paid.len() as u128 - 1), "held money above 2 × (n − 1)")?;
+        check(held < self.paid.len() as u128, "held money above n − 1")?;
+        let came_late = sum(&self.late) > 0;
+        check(!came_late || held == 0, "held money after a late receipt")?;
         if arrears == 0 {
             check(self.paid == step.claim, "a period left with a claim not paid in full")?;
         }
@@ -138,6 +140,37 @@ mod tests {
         purses.add(1, 100).unwrap();
         purses.draw(0, 250, 250).unwrap();
         purses
+    }
+
+    /// A period of three that is settled with claims of 0, 100 and 0 cents and 50 in arrears, after
+    /// so many late cents, of which so many were paid.
+    fn settled(late: u128, paid: u128) -> Result<bool, String> {
+        let mut account = Account::new(3);
+        let step = StepOne { set_off: vec![0; 3], arrears: vec![50, 0, 0], claim: vec![0, 100, 0] };
+        (account.received[0], account.late[0], account.paid[1]) = (50, late, paid);
+        account.check_settled(&step)
+    }
+
+    #[test]
+    fn a_settled_period_holds_at_most_n_less_1_cents() {
+        assert_eq!(
+            (settled(0, 50), settled(0, 49), settled(0, 48)),
+            (Ok(false), Ok(false), Ok(false))
+        );
+        assert!(settled(0, 47).unwrap_err().ends_with("above n − 1"));
+        assert!(settled(0, 51).unwrap_err().ends_with("more paid in a period than received in it"));
+    }
+
+    #[test]
+    fn a_settled_period_holds_nothing_after_a_late_receipt() {
+        assert_eq!(
+            (settled(1, 51), settled(49, 99), settled(50, 100)),
+            (Ok(false), Ok(false), Ok(true))
+        );
+        for late in [1, 49, 50] {
+            let held = settled(late, 49 + late).unwrap_err();
+            assert!(held.ends_with("held money after a late receipt"), "{held}");
+        }
     }
 
     #[test]

@@ -187,9 +187,8 @@ mod tests {
             let mut paid = month.paid.clone();
             let mut unpaid = total(&month.claim) - total(&paid);
             let mut arrears = total(&month.arrears);
-            let bound = 2 * (month.n as u128 - 1);
             assert_eq!(unpaid, arrears + month.held, "seed {seed}");
-            assert!(month.held <= bound, "seed {seed}");
+            assert!(month.held < month.n as u128, "seed {seed}");
             assert!(month.rounds <= month.n as u64, "seed {seed}");
             most_rounds = most_rounds.max(month.rounds);
             for late in &month.late {
@@ -197,7 +196,7 @@ mod tests {
                 unpaid -= total(&late.payments);
                 arrears -= late.cents;
                 assert_eq!(unpaid, arrears + late.held_after, "seed {seed}");
-                assert!(late.held_after <= bound, "seed {seed}");
+                assert_eq!(late.held_after, 0, "seed {seed}");
             }
             if arrears == 0 {
                 assert_eq!(paid, month.claim, "seed {seed}");
