@@ -8,6 +8,7 @@ pub mod by_hand;
 pub mod calls;
 pub mod cases_of_full_sides;
 pub mod cases_of_halves;
+pub mod cases_of_leftovers;
 pub mod cases_of_limits;
 pub mod cases_of_older_arrears;
 pub mod cases_of_purses;
