@@ -42,6 +42,9 @@ pub struct Manner {
     pub purses: u64,
     /// So many of 100 proposals for a period before its notice are washups.
     pub washups: u64,
+    /// So many of 100 amounts have the tier and the cents of the one before that was owing to a
+    /// participant, so that shares of a tier come to be equal.
+    pub alike: u64,
 }
 
 pub struct Aim {
@@ -52,6 +55,8 @@ pub struct Aim {
     closing: BTreeSet<u32>,
     /// The washup that was proposed last.
     pub last_washup: Option<Entry>,
+    /// The tier and the cents of the amount owing to a participant that was proposed last.
+    last_to: Option<(u8, u64)>,
 }
 
 impl Aim {
@@ -59,7 +64,7 @@ impl Aim {
         let (book, closing) = (Book::make(making).0, BTreeSet::new());
         let periods = manner.periods.min(making.limits.periods);
         let manner = Manner { periods, ..manner };
-        Aim { random, book, manner, closing, last_washup: None }
+        Aim { random, book, manner, closing, last_washup: None, last_to: None }
     }
 
     /// The next entry; the book is not changed.
@@ -138,8 +143,19 @@ impl Aim {
         }
     }
 
+    /// An amount as the last one that was owing to a participant, owing to anyone.
+    fn amount_alike(&mut self, number: u32) -> Option<Entry> {
+        let (tier, cents) = self.last_to?;
+        let fits = cents <= self.room_on(number, 1);
+        let wanted = self.manner.alike > 0 && self.random.chance(self.manner.alike, 100);
+        (fits && wanted).then(|| Entry::amount(number, self.any_participant(), 1, tier, cents))
+    }
+
     /// Energy or an amount for a period before its notice.
     pub fn energy_or_amount(&mut self, number: u32) -> Entry {
+        if let Some(alike) = self.amount_alike(number) {
+            return alike;
+        }
         let side = self.random.below(2) as u8;
         let room = self.room_on(number, side);
         let half = energies::half_for(&mut self.random, room.into());
@@ -176,6 +192,9 @@ impl Aim {
             _ if self.random.chance(1, 2) => 5,
             _ => self.random.between(1, 5) as u8,
         };
+        if side == 1 {
+            self.last_to = Some((tier, cents));
+        }
         Entry::amount(number, participant, side, tier, cents)
     }
 

@@ -1,6 +1,7 @@
 //! Compares three programs with the reckoning on feeds and trials from fixed seeds.
 
 use crate::cases_of_halves;
+use crate::cases_of_leftovers;
 use crate::cases_of_limits;
 use crate::counts_of_lists::Lists;
 use crate::example_feeds;
@@ -14,6 +15,7 @@ use crate::same_payouts;
 use crate::totals::{Differences, Least, Listed, Tried};
 use crate::trials::{self, TRIALS, TRIALS_OF_ROUNDS};
 use crate::trials_of_groups::{self, Named};
+use crate::trials_of_leftovers;
 use crate::trials_of_limits;
 use crate::trials_of_purses;
 use crate::trials_of_washups;
@@ -145,14 +147,18 @@ fn compare_cases_of_halves(totals: &mut Totals, listing: &str, trial: &str) {
     }
 }
 
-/// The cases by hand as feeds; as trials they are among those of their request. The files of feeds/
-/// are put to both books.
+/// The cases by hand as feeds; as trials they are among those of their request. Those of leftover cents
+/// and the files of feeds/ are put to both books.
 fn compare_cases_by_hand(totals: &mut Totals, programs: &Programs) {
     for case in trials_of_purses::every_case() {
         totals.feed(programs.listing, &format!("feed of purses, {}", case.name), &case.feed());
     }
     for case in trials_of_washups::every_case() {
         totals.feed(programs.listing, &format!("feed of washups, {}", case.name), &case.feed());
+    }
+    for (name, feed) in cases_of_leftovers::feeds() {
+        totals.feed(programs.listing, &name, &feed);
+        totals.demonstrate(programs.demonstration, &name, &feed);
     }
     for name in example_feeds::NAMES {
         let feed = example_feeds::example(name).expect("a name that exists");
@@ -161,11 +167,12 @@ fn compare_cases_by_hand(totals: &mut Totals, programs: &Programs) {
     }
 }
 
-/// The trials of books in groups, of purses, of washups and of limits.
+/// The trials of books in groups, of purses, of washups, of limits and of leftover cents.
 pub(crate) fn trials_of_requests() -> impl Iterator<Item = Named> {
     let of_groups = trials_of_groups::every_trial();
     let of_entries = trials_of_purses::every_trial().chain(trials_of_washups::every_trial());
-    of_groups.chain(of_entries).chain(trials_of_limits::every_trial())
+    let of_limits = trials_of_limits::every_trial();
+    of_groups.chain(of_entries).chain(of_limits).chain(trials_of_leftovers::every_trial())
 }
 
 fn compare_trials(totals: &mut Totals, program: &str) {

@@ -6,6 +6,7 @@ use crate::book::{cents, tier};
 use crate::codec::{
     self, Entry, Field, AMOUNT, ENERGY, NOTICE, OPEN, PURSE, RECEIPT, SETTLE, WASHUP,
 };
+use crate::counts_of_leftovers::Leftovers;
 use crate::counts_of_limits::Openings;
 use crate::counts_of_washups::Washups;
 use crate::draws::Draws;
@@ -34,6 +35,8 @@ pub struct Count {
     pub washups: Washups,
     /// And of openings about the period limit.
     pub openings: Openings,
+    /// And of leftover cents.
+    pub leftovers: Leftovers,
 }
 
 struct Ledger {

@@ -7,6 +7,7 @@ use crate::limits::{Limits, MARKET};
 use crate::making::Making;
 use crate::random::Random;
 use crate::rounds;
+use crate::trials_of_leftovers::ALIKE;
 
 /// A kind of feed: its name, how many a comparison takes, and how many entries each has.
 pub struct Kind {
@@ -21,7 +22,7 @@ const fn kind(name: &'static str, feeds: u64, entries: u64) -> Kind {
 
 /// Numbers of participants and periods are those of a market book; in a book of other limits they stand
 /// as near to these.
-pub const KINDS: [Kind; 16] = [
+pub const KINDS: [Kind; 17] = [
     // n of 1 to 6 and few cents.
     kind("few", 150, 600),
     // n of 2 to 6 and hundreds of cents.
@@ -54,6 +55,8 @@ pub const KINDS: [Kind; 16] = [
     kind("purses", 120, 600),
     // n of 2 to 6 and many washups.
     kind("washups", 120, 600),
+    // n of 2 to 8, equal amounts, and what is paid of them in parts.
+    kind("leftovers", 120, 600),
 ];
 
 fn manner(name: &str, limits: Limits, random: &mut Random, n: u64) -> Manner {
@@ -63,6 +66,7 @@ fn manner(name: &str, limits: Limits, random: &mut Random, n: u64) -> Manner {
         "millions" => Scale::Millions,
         "bound" => Scale::Bound,
         "washups" => random.pick(&[Scale::Few, Scale::Hundreds, Scale::Bound, Scale::Bound]),
+        "leftovers" => random.pick(&[Scale::Few, Scale::Few, Scale::Hundreds, Scale::Bound]),
         _ => random.pick(&[Scale::Few, Scale::Few, Scale::Hundreds, Scale::Millions, Scale::Bound]),
     };
     let periods = match name {
@@ -91,7 +95,8 @@ fn manner(name: &str, limits: Limits, random: &mut Random, n: u64) -> Manner {
         "long" | "highest" => 10,
         _ => random.pick(&[0, 0, 5, 15]),
     };
-    Manner { scale, wrong, periods, amounts: n + 3, step, purses, washups }
+    let alike = if name == "leftovers" { ALIKE } else { 0 };
+    Manner { scale, wrong, periods, amounts: n + 3, step, purses, washups, alike }
 }
 
 /// n, for a book of some limits.
@@ -105,6 +110,7 @@ fn participants(name: &str, limits: Limits, seed: u64, random: &mut Random) -> u
         "long" => [3, most, 2, 5, 6][(seed % 5) as usize],
         "refused-n" => [0, most + 1, 255, random.between(most + 2, 254)][(seed % 4) as usize],
         "full" | "purses" | "washups" => random.between(2, 6),
+        "leftovers" => random.between(2, most.min(8)),
         "cut" | "wrong" => random.pick(&[1, 2, 3, 4, 5, 6, most - 1, most]),
         _ => random.between(1, 6),
     }

@@ -44,9 +44,11 @@ pub fn judge_listing(feed: &[u8], found: &[u8]) -> Result<Count, String> {
 pub fn judge_within(limits: Limits, feed: &[u8], found: &[u8]) -> Result<Count, String> {
     let by_demand_3 = demand3::check_within(limits, feed, found);
     let (reckoned, seen) = listing::lines_within(limits, Book::make, feed);
-    let listing::Seen { draws, washups, openings } = seen;
+    let listing::Seen { draws, washups, openings, leftovers } = seen;
     match (first_difference(&reckoned, found), by_demand_3) {
-        (None, result) => result.map(|count| Count { draws, washups, openings, ..count }),
+        (None, result) => {
+            result.map(|count| Count { draws, washups, openings, leftovers, ..count })
+        }
         (Some(difference), Ok(_)) => Err(difference),
         (Some(difference), Err(what)) => Err(format!("{difference}; {what}")),
     }

@@ -2,12 +2,14 @@
 
 use crate::book::{Book, Make};
 use crate::codec::{self, Entry, LONGEST_ENTRY};
+use crate::counts_of_leftovers::Leftovers;
 use crate::counts_of_limits::Openings;
 use crate::counts_of_washups::Washups;
 use crate::draws::Draws;
 use crate::limits::{Limits, MARKET};
 use crate::making::Making;
 use crate::refusals::ACCEPTED;
+use crate::watch_of_leftovers;
 use crate::watch_of_limits;
 use crate::watch_of_purses;
 use crate::watch_of_washups;
@@ -94,6 +96,7 @@ pub struct Seen {
     pub draws: Draws,
     pub washups: Washups,
     pub openings: Openings,
+    pub leftovers: Leftovers,
 }
 
 /// Watches the entries of a listing.
@@ -102,6 +105,7 @@ struct Watch {
     purses: watch_of_purses::Watch,
     washups: watch_of_washups::Watch,
     limits: watch_of_limits::Watch,
+    leftovers: watch_of_leftovers::Watch,
 }
 
 /// Prints the listing of a feed where books are made so, and counts what is seen, if asked.
@@ -129,12 +133,14 @@ fn list_by(
             watch.purses.before(&book, &entry);
             watch.washups.before(&book, &entry);
             watch.limits.before(&book, &entry);
+            watch.leftovers.before(&book, &entry);
         }
         let answer = book.apply(&entry, &mut words).number;
         if let Some(watch) = &mut watch {
             watch.purses.after(answer);
             watch.washups.after(answer);
             watch.limits.after(&book, answer);
+            watch.leftovers.after(&book, answer);
         }
         let payouts = if answer == ACCEPTED { &words[..] } else { &[] };
         print_entry(out, number, answer, payouts, book.held())?;
@@ -152,7 +158,8 @@ pub fn lines_within(limits: Limits, make: Make, feed: &[u8]) -> (Vec<u8>, Seen) 
     let (mut out, mut watch) = (Vec::new(), Watch::default());
     list_by((limits, make), feed, &mut out, Some(&mut watch)).expect("memory takes every byte");
     let (washups, openings) = (watch.washups.counts, watch.limits.counts.openings);
-    (out, Seen { draws: watch.purses.draws, washups, openings })
+    let leftovers = watch.leftovers.counts;
+    (out, Seen { draws: watch.purses.draws, washups, openings, leftovers })
 }
 
 /// The listing of a feed that is in memory.

@@ -4,6 +4,7 @@ use crate::book::Book;
 use crate::cases_of_halves;
 use crate::codec::LAST_KIND;
 use crate::compare::{trials_of_requests, Totals};
+use crate::counts_of_leftovers;
 use crate::counts_of_limits;
 use crate::counts_of_lists::{self, Lists};
 use crate::counts_of_washups::Sight;
@@ -11,6 +12,8 @@ use crate::reach::Reach;
 use crate::refusals::NUMBERS;
 use crate::totals::{Listed, Tried, LEAST_CALLS};
 use crate::trial;
+
+const EQUALS_CUT: usize = counts_of_leftovers::Sight::EqualsCut as usize;
 
 /// Just what a comparison must have covered.
 fn least() -> Totals {
@@ -23,6 +26,7 @@ fn least() -> Totals {
         totals.tried.draws.add(&seen.draws);
         totals.tried.washups.add(&seen.washups);
         totals.tried.limits.add(&seen.limits);
+        totals.tried.leftovers.add(&seen.leftovers);
     }
     let Totals { listed, demonstrated, tried, .. } = &mut totals;
     tried.calls = LEAST_CALLS;
@@ -38,6 +42,7 @@ fn least() -> Totals {
         listed.draws = tried.draws.clone();
         listed.washups = tried.washups.clone();
         listed.openings = tried.limits.openings.clone();
+        listed.leftovers = tried.leftovers.clone();
     }
     totals.lists = Lists { lists: 1, counts: [1; counts_of_lists::Sight::ALL.len()] };
     totals.listed_lists = totals.lists.clone();
@@ -68,12 +73,15 @@ fn each_part_of_what_trials_must_have_covered_is_asked_for() {
     assert!(without(|less| less.washups.by_sight[Sight::With11 as usize][0] = 0));
     assert!(without(|less| less.limits.counts[counts_of_limits::Sight::NOfZero as usize] = 0));
     assert!(without(|less| less.limits.openings.by_limit[1][6] = 0));
+    assert!(without(|less| less.leftovers.by_sight[EQUALS_CUT][0] = 0));
+    assert!(without(|less| less.leftovers.by_sight[EQUALS_CUT][1] = 0));
+    assert!(without(|less| less.leftovers.held[0] = 0));
 }
 
 #[test]
 fn each_part_of_what_listings_must_have_covered_is_asked_for() {
     let totals = least();
-    let changes: [fn(&mut Listed); 15] = [
+    let changes: [fn(&mut Listed); 18] = [
         |less| less.feeds -= 1,
         |less| less.months -= 1,
         |less| less.answers[4] = 0,
@@ -84,6 +92,9 @@ fn each_part_of_what_listings_must_have_covered_is_asked_for() {
         |less| less.draws.counts[0] = 0,
         |less| less.washups.by_sight[Sight::Up as usize][1] = 0,
         |less| less.openings.by_limit[2][less.limits.periods as usize - 1] = 0,
+        |less| less.leftovers.by_sight[EQUALS_CUT][0] = 0,
+        |less| less.leftovers.by_sight[EQUALS_CUT][1] = 0,
+        |less| less.leftovers.held[0] = 0,
         |less| less.every_n.retain(|&n| n != 0),
         |less| less.every_n.retain(|&n| n != 6),
         |less| less.every_n.retain(|&n| u64::from(n) != less.limits.participants),

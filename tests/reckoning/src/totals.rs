@@ -1,5 +1,6 @@
 //! What a comparison came to: what was listed, what was tried, and what differed.
 
+use crate::counts_of_leftovers::Leftovers;
 use crate::counts_of_limits::{Limited, Openings};
 use crate::counts_of_washups::Washups;
 use crate::demand3::Count;
@@ -78,6 +79,7 @@ pub struct Listed {
     pub draws: Draws,
     pub washups: Washups,
     pub openings: Openings,
+    pub leftovers: Leftovers,
 }
 
 impl Listed {
@@ -97,6 +99,7 @@ impl Listed {
             draws: Draws::default(),
             washups: Washups::default(),
             openings: Openings::default(),
+            leftovers: Leftovers::default(),
         }
     }
 
@@ -121,6 +124,7 @@ impl Listed {
         self.draws.add(&count.draws);
         self.washups.add(&count.washups);
         self.openings.add(&count.openings);
+        self.leftovers.add(&count.leftovers);
     }
 
     /// Whether n was 0, 1 to 6, about the participant limit, the market's and the largest.
@@ -140,6 +144,7 @@ impl Listed {
             && self.draws.covered()
             && self.washups.covered()
             && self.openings.covered_at(self.limits.periods)
+            && self.leftovers.covered()
             && answers
                 .into_iter()
                 .all(|(number, &count)| number == usize::from(TOO_LITTLE_LENT) || count > 0)
@@ -151,6 +156,7 @@ impl Listed {
         self.draws.print(self.of);
         self.washups.print(self.of);
         self.openings.print(self.of);
+        self.leftovers.print(self.of);
         println!(
             "{}: {} feeds, {} settled months ({} with arrears), {} that left, {} late receipts",
             self.of, self.feeds, self.months, self.with_arrears, self.left, self.late
@@ -172,6 +178,7 @@ pub struct Tried {
     pub draws: Draws,
     pub washups: Washups,
     pub limits: Limited,
+    pub leftovers: Leftovers,
 }
 
 impl Tried {
@@ -203,6 +210,7 @@ impl Tried {
         self.draws.add(&count.seen.draws);
         self.washups.add(&count.seen.washups);
         self.limits.add(&count.seen.limits);
+        self.leftovers.add(&count.seen.leftovers);
     }
 
     /// Whether the trials covered what they must.
@@ -215,6 +223,7 @@ impl Tried {
             && self.draws.covered()
             && self.washups.covered()
             && self.limits.covered()
+            && self.leftovers.covered()
     }
 
     pub fn print(&self) {
@@ -227,6 +236,7 @@ impl Tried {
         self.draws.print("trials");
         self.washups.print("trials");
         self.limits.print();
+        self.leftovers.print("trials");
         println!("trials: {} of {} calls", self.trials, self.calls);
     }
 }

@@ -2,6 +2,7 @@
 
 use crate::book::{Book, Make};
 use crate::codec::{self, Entry, Field};
+use crate::counts_of_leftovers::Leftovers;
 use crate::counts_of_limits::Limited;
 use crate::counts_of_washups::Washups;
 use crate::draws::Draws;
@@ -10,6 +11,7 @@ use crate::limits::Limits;
 use crate::making::Making;
 use crate::reach::{Reach, Watch};
 use crate::refusals::ACCEPTED;
+use crate::watch_of_leftovers;
 use crate::watch_of_limits::{self, Call};
 use crate::watch_of_purses;
 use crate::watch_of_washups;
@@ -88,6 +90,7 @@ pub struct Seen {
     pub draws: Draws,
     pub washups: Washups,
     pub limits: Limited,
+    pub leftovers: Leftovers,
 }
 
 /// The book that calls go to, and what makes the next one.
@@ -99,6 +102,7 @@ struct Trial {
     purses: watch_of_purses::Watch,
     washups: watch_of_washups::Watch,
     limits: watch_of_limits::Watch,
+    leftovers: watch_of_leftovers::Watch,
 }
 
 fn call_read(input: &mut impl Read) -> Option<String> {
@@ -128,8 +132,8 @@ impl Trial {
     fn new(make: Make) -> Trial {
         // Before the first book is made, entries come to one without participants.
         let (watch, halves) = (Watch::default(), Halves::default());
-        let (purses, washups, limits) = Default::default();
-        Trial { book: Book::alone(0), make, watch, halves, purses, washups, limits }
+        let (purses, washups, limits, leftovers) = Default::default();
+        Trial { book: Book::alone(0), make, watch, halves, purses, washups, limits, leftovers }
     }
 
     fn made(&mut self, call: Call, making: &Making) -> String {
@@ -154,10 +158,12 @@ impl Trial {
         self.purses.before(&self.book, &entry);
         self.washups.before(&self.book, &entry);
         self.limits.before(&self.book, &entry);
+        self.leftovers.before(&self.book, &entry);
         let answer = self.book.apply(&entry, &mut words);
         self.purses.after(answer.number);
         self.washups.after(answer.number);
         self.limits.after(&self.book, answer.number);
+        self.leftovers.after(&self.book, answer.number);
         self.halves.take(half, answer.number);
         self.watch.applied(&self.book, (before.as_ref(), purses), &entry, answer);
         let line = format!("apply {} {} {}", answer.number, answer.rounds, self.book.held());
@@ -196,7 +202,8 @@ pub fn lines_by(make: Make, calls: &[u8]) -> (Vec<u8>, Seen) {
     trial.run(calls, &mut out).expect("memory takes every byte");
     let (reach, draws) = (trial.watch.reach, trial.purses.draws);
     let (washups, limits) = (trial.washups.counts, trial.limits.counts);
-    (out, Seen { reach, halves: trial.halves, draws, washups, limits })
+    let (halves, leftovers) = (trial.halves, trial.leftovers.counts);
+    (out, Seen { reach, halves, draws, washups, limits, leftovers })
 }
 
 /// The lines for calls that are in memory.

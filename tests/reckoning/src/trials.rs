@@ -33,6 +33,7 @@ pub(crate) fn any_manner(random: &mut Random, n: u64) -> Manner {
         step: random.pick(&[1, 3]),
         purses: random.pick(&[0, 5, 15]),
         washups: random.pick(&[0, 5, 20]),
+        alike: 0,
     }
 }
 

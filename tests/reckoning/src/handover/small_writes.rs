@@ -29,12 +29,12 @@ fn write_ends(length: usize) -> Vec<usize> {
     ends
 }
 
-/// Whether a feed had refused entries, washups, settlements, some of them with draws on purses, and
-/// late money.
+/// Whether a feed had refused entries, washups, settlements, some of them with draws on purses, late
+/// money and tiers shared with leftover cents.
 fn various(count: &Count) -> bool {
     let refused: u64 = count.answers[usize::from(ACCEPTED) + 1..].iter().sum();
     let (drawn, washups) = (count.draws.drawn(), count.washups.added());
-    let various = refused > 0 && washups > 0 && drawn > 0;
+    let various = refused > 0 && washups > 0 && drawn > 0 && count.leftovers.with_cents() > 0;
     various && count.settled_months > 0 && count.late_receipts > 0
 }
 
@@ -53,10 +53,11 @@ pub fn small_writes(limits: Limits, run: &impl Run) -> bool {
     let (months, late) = (count.settled_months, count.late_receipts);
     let covered = format!(
         "n {}, {written} writes, {entries} entries, {} washups that added cents, {months} settled \
-         months, {} draws on purses, {late} late receipts",
+         months, {} draws on purses, {late} late receipts, {} tiers shared with leftover cents",
         feed[0],
         count.washups.added(),
-        count.draws.drawn()
+        count.draws.drawn(),
+        count.leftovers.with_cents()
     );
     runs.stands(&covered, enough)
 }

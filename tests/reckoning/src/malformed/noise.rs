@@ -78,7 +78,8 @@ fn changed(random: &mut Random, n: u8) -> Vec<u8> {
     let standing = random.pick(&[1, 2, 3, 4, 5, 6, 64]);
     let scale = random.pick(&[Scale::Few, Scale::Hundreds, Scale::Millions, Scale::Bound]);
     let periods = random.pick(&[1, 2, 12]);
-    let manner = Manner { scale, wrong: 5, periods, amounts: 4, step: 2, purses: 8, washups: 10 };
+    let manner =
+        Manner { scale, wrong: 5, periods, amounts: 4, step: 2, purses: 8, washups: 10, alike: 0 };
     let mut aim = Aim::new(random.clone(), &Making::alone(standing), manner);
     let mut feed = vec![if random.chance(1, 4) { n } else { standing as u8 }];
     for _ in 0..random.between(1, 60) {

@@ -11,6 +11,7 @@ mod tests;
 
 pub use plan::Plan;
 
+use crate::counts_of_leftovers::{self, Held};
 use crate::counts_of_washups;
 use crate::draws::Sight;
 use crate::limits::MOST_PARTICIPANTS;
@@ -31,6 +32,13 @@ const SEED: u64 = 400;
 const NOT_REQUIRED: [Sight; 2] = [Sight::LaterArrears, Sight::BesideReceipts];
 /// Not required of washups: a soak's months do not come to the last period numbers.
 const WASHUPS_NOT_REQUIRED: [counts_of_washups::Sight; 1] = [counts_of_washups::Sight::LastNumbers];
+/// Required of leftover cents: a soak's amounts are mostly large, so that its remainders are seldom equal,
+/// and its months mostly come to tier 5.
+const LEFTOVERS_REQUIRED: [counts_of_leftovers::Sight; 5] = {
+    use counts_of_leftovers::Sight::*;
+    [MoreCents, Tier5, AfterMet, ToLess, ToHigher]
+};
+const HELD_REQUIRED: [Held; 3] = [Held::Some, Held::BesideLeftovers, Held::Late];
 /// A program that prints nothing for so long is ended.
 const LONGEST: Duration = Duration::from_secs(60);
 
@@ -120,7 +128,8 @@ fn covered(plan: &Plan, reach: &Reach) -> bool {
         && count.late_receipts > 0
         && count.halves.both_ways()
         && reach.purses.draws.covered_but_for(&NOT_REQUIRED)
-        && reach.washups.counts.covered_but_for(&WASHUPS_NOT_REQUIRED);
+        && reach.washups.counts.covered_but_for(&WASHUPS_NOT_REQUIRED)
+        && reach.leftovers.counts.has(&LEFTOVERS_REQUIRED, &HELD_REQUIRED);
     if !enough {
         println!("too little was compared");
     }
@@ -143,6 +152,7 @@ fn print_reach(reach: &Reach) {
     count.halves.print("the feed");
     reach.purses.draws.print("the feed");
     reach.washups.counts.print("the feed");
+    reach.leftovers.counts.print("the feed");
 }
 
 fn judge_memory(memory: &Memory) -> bool {

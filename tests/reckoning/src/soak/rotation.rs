@@ -12,6 +12,7 @@ use crate::making::Making;
 use crate::period::Stage;
 use crate::random::Random;
 use crate::refusals::ACCEPTED;
+use crate::watch_of_leftovers;
 use crate::watch_of_purses;
 use crate::watch_of_washups;
 use std::collections::BTreeMap;
@@ -39,6 +40,7 @@ pub struct Reach {
     pub count: Count,
     pub purses: watch_of_purses::Watch,
     pub washups: watch_of_washups::Watch,
+    pub leftovers: watch_of_leftovers::Watch,
 }
 
 pub struct Rotation {
@@ -64,6 +66,7 @@ impl Rotation {
             step: 3,
             purses: 1,
             washups: filling::WASHUPS,
+            alike: 0,
         };
         let aim = Aim::new(Random::new(seed), &Making::within(plan.limits, plan.n.into()), manner);
         Rotation { plan, reach: Reach::default(), aim, opened_after: BTreeMap::new() }
@@ -220,9 +223,11 @@ impl Rotation {
         let half = before.and_then(|period| Half::of(entry, &period.sums));
         self.reach.purses.before(&self.aim.book, entry);
         self.reach.washups.before(&self.aim.book, entry);
+        self.reach.leftovers.before(&self.aim.book, entry);
         let answer = self.aim.book.apply(entry, &mut vec![0; self.aim.book.n]).number;
         self.reach.purses.after(answer);
         self.reach.washups.after(answer);
+        self.reach.leftovers.after(&self.aim.book, answer);
         self.reach.entries += 1;
         self.reach.count.answers[usize::from(answer)] += 1;
         self.reach.count.halves.take(half, answer);

@@ -3,7 +3,8 @@
 use super::plan::Plan;
 use super::rotation::{Reach, Rotation};
 use super::streams::{hold, Compared, Watch};
-use super::{covered, NOT_REQUIRED, SEED, WASHUPS_NOT_REQUIRED};
+use super::{covered, HELD_REQUIRED, LEFTOVERS_REQUIRED, NOT_REQUIRED, SEED, WASHUPS_NOT_REQUIRED};
+use crate::counts_of_leftovers::{self, Held};
 use crate::counts_of_washups;
 use crate::draws::Sight;
 use crate::limits::{DEMONSTRATION, MARKET};
@@ -140,6 +141,25 @@ fn a_feed_in_which_something_of_washups_is_never_seen_covers_too_little() {
         less.washups.counts.by_sight[sight as usize][side] = 0;
         let required = !WASHUPS_NOT_REQUIRED.contains(&sight);
         assert_eq!(covered(&PLAN, &less), !required, "{}", sight.name());
+    }
+}
+
+#[test]
+fn a_feed_in_which_what_is_required_of_leftover_cents_is_never_seen_covers_too_little() {
+    let mut rotation = Rotation::new(PLAN, SEED);
+    rotation.by_ref().for_each(drop);
+    for (sight, by) in
+        counts_of_leftovers::Sight::ALL.into_iter().flat_map(|sight| [(sight, 0), (sight, 1)])
+    {
+        let mut less = rotation.reach.clone();
+        less.leftovers.counts.by_sight[sight as usize][by] = 0;
+        let required = LEFTOVERS_REQUIRED.contains(&sight);
+        assert_eq!(covered(&PLAN, &less), !required, "{}", sight.name());
+    }
+    for held in Held::ALL {
+        let mut less = rotation.reach.clone();
+        less.leftovers.counts.held[held as usize] = 0;
+        assert_eq!(covered(&PLAN, &less), !HELD_REQUIRED.contains(&held), "{}", held.name());
     }
 }
 
