@@ -81,6 +81,20 @@ fn swap_payouts(lines: &mut [String]) -> bool {
     false
 }
 
+/// Moves a cent between the last two payouts of one entry.
+fn move_a_cent(lines: &mut [String]) -> bool {
+    let two = |at: &usize| is_pay(&words(&lines[at - 1])) && is_pay(&words(&lines[*at]));
+    let Some(at) = (1..lines.len()).rev().find(two) else {
+        return false;
+    };
+    for (place, more) in [(at - 1, -1), (at, 1)] {
+        let mut pay = words(&lines[place]);
+        pay[2] = (pay[2].parse::<i64>().expect("a number") + more).to_string();
+        lines[place] = pay.join(" ");
+    }
+    true
+}
+
 /// Turns the last accepted entry that paid nothing and after which money is held into a refusal.
 fn refuse_accepted(lines: &mut [String]) -> bool {
     let fits = |words: &[String]| is_entry(words) && words[1..3] == ["0", "0"] && words[3] != "0";
@@ -114,10 +128,11 @@ fn change_refusal(lines: &mut [String]) -> bool {
     raise(lines, "", 1, |words| is_entry(words) && words[1] == "8")
 }
 
-const OF_LISTING: [Damage; 15] = [
+const OF_LISTING: [Damage; 16] = [
     both("a payout changed by a cent", |l| raise(l, "pay ", 2, is_pay)),
     both("a payout given to the next participant", |l| raise(l, "pay ", 1, is_pay)),
     both("two payouts swapped", |l| swap_payouts(l)),
+    both("a cent moved between two payouts", |l| move_a_cent(l)),
     both("an entry's line lost", |l| lose(l, is_entry)),
     both("a payout's line lost", |l| lose(l, is_pay)),
     both("held changed", |l| raise(l, "", 3, is_entry)),
