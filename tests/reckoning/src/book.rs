@@ -263,8 +263,8 @@ impl Book {
                 period.stage = Stage::Noticed(month::notice_by(&period.sums, retention));
                 (nothing, 0)
             }
-            RECEIPT => (period.receive(participant, entry.cents.into()), 0),
-            SETTLE => period.settle(),
+            RECEIPT => (period.receive(participant, entry.cents.into(), self.ways.late), 0),
+            SETTLE => period.settle((self.ways.revised, self.ways.rounds)),
             kind => panic!("no such kind: {kind}"),
         };
         if period.settled_without_arrears() {

@@ -139,6 +139,16 @@ fn at_the_bound(name: &'static str, to: [u64; 2], payouts: [[u64; 3]; 2]) -> Cas
         .late(0, MOST_CENTS / 2, payouts[1])
 }
 
+/// Thirds of 10^13, a cent more for the first. All but 2 cents are there, and each share lacks about 2/3
+/// of a cent; the first lacks 2 × 10^-13 of one more than the others, so that the cent goes to the second.
+fn nearly_equal_remainders() -> Case<4> {
+    let third = MOST_CENTS / 3;
+    let to = [(1, 5, third + 1), (2, 5, third), (3, 5, third)];
+    noticed("nearly equal remainders", &[(0, MOST_CENTS)], &to)
+        .settled(0, MOST_CENTS - 2, [0, third, third, third - 1], 0)
+        .late(0, 2, [0, 1, 0, 1])
+}
+
 fn of_three() -> Vec<Case<3>> {
     let (most, half) = (MOST_CENTS - 1, MOST_CENTS / 2);
     let (first, second) = ([[0, 1, half - 1], [0, 0, half]], [[0, half, 0], [0, half - 1, 1]]);
@@ -159,6 +169,7 @@ fn of_four() -> Vec<Case<4>> {
         equal_remainders(),
         without_a_remainder(),
         a_tier_in_the_middle(),
+        nearly_equal_remainders(),
         without.late(3, 1, [0, 1, 1, 0]).late(3, 2, [0, 1, 1, 0]),
         shared.late(3, 2, [0, 2, 1, 0]).late(3, 1, [0, 0, 1, 0]),
         rounds_that_hold_two(),

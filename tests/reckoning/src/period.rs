@@ -2,7 +2,8 @@
 
 use crate::book::MOST_TOTAL;
 use crate::codec::{AMOUNT, ENERGY, NOTICE, RECEIPT, SETTLE, WASHUP};
-use crate::month::{self, Notice, Sums};
+use crate::month::{self, Notice, Rounds, Sums};
+use crate::sharing::Shares;
 
 #[derive(Clone, Debug)]
 pub enum Stage {
@@ -29,6 +30,10 @@ impl Period {
         matches!(self.stage, Stage::BeforeNotice)
     }
 
+    pub fn is_settled(&self) -> bool {
+        matches!(self.stage, Stage::Settled { .. })
+    }
+
     /// What a side has room for; a wrong version's total may be past its bound.
     pub fn room(&self, side: u8) -> u128 {
         MOST_TOTAL.saturating_sub(self.sums.total(side))
@@ -39,8 +44,10 @@ impl Period {
         self.sums.total(side) + cents > MOST_TOTAL
     }
 
+    /// What was received and not paid; a wrong version may have paid more than it received.
     pub fn held(&self) -> u128 {
-        self.received.iter().sum::<u128>() - self.paid.iter().sum::<u128>()
+        let received: u128 = self.received.iter().sum();
+        received.saturating_sub(self.paid.iter().sum())
     }
 
     /// Arrears of a payer once the period is settled; 0 before.
@@ -75,8 +82,8 @@ impl Period {
         }
     }
 
-    /// Adds a receipt and gives what it pays each participant.
-    pub(crate) fn receive(&mut self, payer: usize, cents: u128) -> Vec<u128> {
+    /// Adds a receipt and gives what it pays each participant, where tiers are shared so.
+    pub(crate) fn receive(&mut self, payer: usize, cents: u128, shares: Shares) -> Vec<u128> {
         self.received[payer] += cents;
         let held = self.held();
         let Stage::Settled { claim, arrears } = &mut self.stage else {
@@ -84,19 +91,20 @@ impl Period {
         };
         arrears[payer] -= cents;
         let shortages = month::shortages(&self.sums, claim, &self.paid);
-        let payments = month::late_payments(&shortages, held);
+        let payments = shares(&shortages, held);
         for (paid, payment) in self.paid.iter_mut().zip(&payments) {
             *paid += payment;
         }
         payments
     }
 
-    /// Settles, and gives what is paid to each participant and the rounds run.
-    pub(crate) fn settle(&mut self) -> (Vec<u128>, u64) {
+    /// Settles, and gives what is paid to each participant and the rounds run, where the tier that is
+    /// not met is shared so, and the rounds run so.
+    pub(crate) fn settle(&mut self, ways: (Shares, Rounds)) -> (Vec<u128>, u64) {
         let Stage::Noticed(notice) = &self.stage else {
             panic!("settled at a wrong stage");
         };
-        let settlement = month::settle(&self.sums, notice, &self.received);
+        let settlement = month::settle_by(&self.sums, notice, &self.received, ways);
         let (claim, arrears) = (settlement.step_one.claim, settlement.step_one.arrears);
         self.stage = Stage::Settled { claim, arrears };
         self.paid.clone_from(&settlement.paid);

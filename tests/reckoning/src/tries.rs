@@ -4,6 +4,7 @@
 use crate::book::{Book, Make};
 use crate::by_hand::Case;
 use crate::cases_of_halves;
+use crate::cases_of_leftovers;
 use crate::cases_of_limits;
 use crate::demand3;
 use crate::feeds;
@@ -14,8 +15,9 @@ use crate::pairs;
 use crate::same_payouts::{self, LISTS};
 use crate::selftest::Report;
 use crate::trial;
-use crate::trials::{self, TRIALS};
+use crate::trials::{self, TRIALS, TRIALS_OF_ROUNDS};
 use crate::trials_of_groups::{self, Named};
+use crate::trials_of_leftovers;
 use crate::trials_of_limits;
 use crate::trials_of_purses;
 use crate::trials_of_washups;
@@ -24,8 +26,10 @@ use crate::versions_of_draws;
 use crate::versions_of_earlier_periods;
 use crate::versions_of_full_books;
 use crate::versions_of_halves;
+use crate::versions_of_leftovers;
 use crate::versions_of_limits;
 use crate::versions_of_purses;
+use crate::versions_of_rounding_up;
 use crate::versions_of_washups;
 use crate::workers;
 
@@ -73,6 +77,13 @@ fn trials_with_limits() -> Vec<Named> {
     trials_of_limits::every_trial().chain(pairs).collect()
 }
 
+/// Those that wrong versions of 02, g, are tried on, months of rounds among them.
+fn trials_with_leftovers() -> Vec<Named> {
+    let of_rounds = (0..TRIALS_OF_ROUNDS)
+        .map(|seed| (format!("trial of rounds seed {seed}"), trials::trial_of_rounds(seed)));
+    trials_of_leftovers::every_trial().chain(of_rounds).chain(from_seeds()).collect()
+}
+
 /// The pairs of refusals of some sorts, as trials.
 fn pairs_of(sorts: &'static [&'static str]) -> impl Iterator<Item = Named> {
     let pairs = pairs::pairs().into_iter().filter(|pair| sorts.contains(&pair.of));
@@ -92,6 +103,13 @@ fn feeds_with_limits(make: Make) -> Vec<Named> {
         (format!("feed {kind} seed {seed}"), feed)
     });
     cases_of_limits::feeds().into_iter().chain(seeds).collect()
+}
+
+/// The feeds that demand 3 is put over as wrong versions of 02, g, list them: the cases, and some from
+/// seeds, aimed by the wrong version.
+fn feeds_with_leftovers(make: Make) -> Vec<Named> {
+    let seeds = feeds_of("leftovers", vec![], make);
+    cases_of_leftovers::feeds().into_iter().chain(seeds).collect()
 }
 
 /// The feeds that demand 3 is put over: the cases of a kind of feed, and some from seeds, aimed by a
@@ -135,6 +153,10 @@ fn versions_of_f() -> Vec<Wrong> {
     [&versions_of_limits::wrong_versions()[..], &versions_of_full_books::WRONG].concat()
 }
 
+fn versions_of_g() -> Vec<Wrong> {
+    [&versions_of_leftovers::WRONG[..], &versions_of_rounding_up::WRONG].concat()
+}
+
 /// Tries each wrong version of a request on trials that are made for it.
 pub fn try_all_versions() -> Report {
     let mut report = Report::default();
@@ -144,6 +166,7 @@ pub fn try_all_versions() -> Report {
     try_versions(&mut report, 'c', &versions_of_c(), &trials_with_purses());
     try_versions(&mut report, 'e', &versions_of_e(), &trials_with_washups());
     try_versions(&mut report, 'f', &versions_of_f(), &trials_with_limits());
+    try_versions(&mut report, 'g', &versions_of_g(), &trials_with_leftovers());
     report
 }
 
@@ -161,6 +184,9 @@ pub fn try_demand_3() -> Report {
     }
     for wrong in versions_of_f().iter().filter(|wrong| wrong.by_demand_3) {
         put_demand_3(&mut report, 'f', wrong, &feeds_with_limits(wrong.make));
+    }
+    for wrong in versions_of_g().iter().filter(|wrong| wrong.by_demand_3) {
+        put_demand_3(&mut report, 'g', wrong, &feeds_with_leftovers(wrong.make));
     }
     report
 }

@@ -4,7 +4,9 @@
 use crate::book::{cents, Answer, Book, Cents, Make};
 use crate::codec::Entry;
 use crate::making::Making;
+use crate::month::{self, Rounds};
 use crate::retention::{retention, Retention};
+use crate::sharing::{self, Shares};
 use crate::washup::{self, Addition};
 
 /// Gives what each payer has drawn when a noticed period settles.
@@ -20,6 +22,11 @@ pub type Applied = fn(&mut Book, &Entry, &mut [u64]) -> Answer;
 pub struct Ways {
     /// Gives A.
     pub retention: Retention,
+    /// Gives the revised amounts V of step 2, and what late money pays.
+    pub revised: Shares,
+    pub late: Shares,
+    /// Runs the rounds of step 4.
+    pub rounds: Rounds,
     /// The cents that an energy or amount entry adds, and those that 11 tests.
     pub added: Cents,
     pub tested: Cents,
@@ -40,6 +47,9 @@ pub struct Ways {
 /// The ways of the rules.
 pub const RIGHT: Ways = Ways {
     retention,
+    revised: sharing::shares,
+    late: sharing::shares,
+    rounds: month::rounds,
     added: cents,
     tested: cents,
     drawn: Book::drawn,
