@@ -4,9 +4,10 @@ use crate::batches::{timed, Times};
 use crate::library;
 use crate::slices::{self, Rest, PLACES};
 use reckoning::groupings::{self, Reserves, Shape};
-use reckoning::month::{self, Notice, Settlement};
+use reckoning::month::{self, Notice, Settlement, TIERS};
 use reckoning::months::{self, Month};
 use reckoning::random::Random;
+use reckoning::sharing;
 use std::hint::black_box;
 
 /// Months of as many participants as a book takes.
@@ -130,10 +131,28 @@ fn checked(month: impl Fn(u64) -> Month, fits: impl Fn(&Month) -> bool) -> (Vec<
     (months, rows)
 }
 
+/// Prints in how many months a tier is shared with leftover cents (02, g).
+fn print_leftovers(months: &[Month]) {
+    let has_cents = |wanted: &[[u128; TIERS]], money: u128| {
+        let shared = sharing::met(wanted, money).1;
+        shared.is_some_and(|shared| shared.leftover() > 0)
+    };
+    let settled = months.iter().filter(|month| has_cents(&month.sums.to, month.available));
+    let late = months.iter().map(|month| &month.late[0]);
+    let late = late.filter(|late| has_cents(&late.shortages, late.money));
+    println!(
+        "of {} months, a tier is shared with leftover cents in {} settlements and {} late receipts",
+        months.len(),
+        settled.count(),
+        late.count()
+    );
+}
+
 pub fn measure() {
     let comes_late = |month: &Month| !month.late.is_empty();
     let with_rounds = |month: &Month| month.rounds > 0 && comes_late(month);
     let (months, mut rows) = checked(|seed| months::month_of(seed, PLACES), with_rounds);
+    print_leftovers(&months);
     compare("notice", &months, &mut rows, Lent::notice, notice);
     compare("notice and settlement with rounds", &months, &mut rows, Lent::settle, settle);
     compare("late receipt", &months, &mut rows, Lent::late, late);

@@ -173,6 +173,15 @@ pub fn month(seed: u64) -> Month {
 #[cfg(test)]
 mod tests {
     use super::*;
+    use crate::counts_of_leftovers::Leftovers;
+
+    /// A part of the months that the exports are compared on.
+    #[test]
+    fn random_months_show_all_that_there_is_of_leftover_cents() {
+        let mut seen = Leftovers::default();
+        (0..3_000).for_each(|seed| seen.take_month(&month(seed)));
+        assert!(seen.covered(), "{seen:?}");
+    }
 
     fn total(cents: &[u128]) -> u128 {
         cents.iter().sum()

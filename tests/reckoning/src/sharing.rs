@@ -38,8 +38,11 @@ impl Shared {
 
     /// The cents that the shares leave when all are rounded down.
     pub fn leftover(&self) -> usize {
-        let shared: u128 = self.rounded_down().iter().sum();
-        (self.money - shared) as usize
+        self.left_by(&self.rounded_down())
+    }
+
+    fn left_by(&self, shares: &[u128]) -> usize {
+        (self.money - shares.iter().sum::<u128>()) as usize
     }
 
     /// The participants by their remainders, the largest first, and equal ones by their numbers.
@@ -53,7 +56,8 @@ impl Shared {
     /// The shares rounded down, and one leftover cent to each of the first of some participants.
     pub fn with_cents_to(&self, first: &[usize]) -> Vec<u128> {
         let mut shares = self.rounded_down();
-        first.iter().take(self.leftover()).for_each(|&i| shares[i] += 1);
+        let leftover = self.left_by(&shares);
+        first.iter().take(leftover).for_each(|&i| shares[i] += 1);
         shares
     }
 

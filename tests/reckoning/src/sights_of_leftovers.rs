@@ -2,6 +2,7 @@
 
 use crate::counts_of_leftovers::{By, Held, Leftovers, Sight};
 use crate::month::TIERS;
+use crate::months::Month;
 use crate::sharing::{self, Shared};
 
 /// The participants that get a leftover cent, and those with a remainder that do not.
@@ -57,6 +58,16 @@ impl Leftovers {
         }
         self.see_most(cents as u64, by);
         cents
+    }
+
+    /// A whole month: its settlement and its late receipts.
+    pub fn take_month(&mut self, month: &Month) {
+        let leftover = self.take(By::Settlement, &month.sums.to, month.available);
+        self.take_held(month.n, month.held, leftover);
+        for late in &month.late {
+            self.take(By::LateReceipt, &late.shortages, late.money);
+            self.see_held_if(late.money > late.cents, Held::Late);
+        }
     }
 
     /// A settlement of n participants left cents held, and gave so many leftover ones of a tier.

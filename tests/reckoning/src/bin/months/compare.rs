@@ -2,6 +2,7 @@
 
 use crate::library;
 use crate::slices::{self, Rest};
+use reckoning::counts_of_leftovers::Leftovers;
 use reckoning::kinds::Kinds;
 use reckoning::months::Month;
 use std::collections::BTreeMap;
@@ -20,6 +21,8 @@ pub struct Count {
     pub kinds: Kinds,
     /// Months whose payable row groups of one and no reserves would not give.
     pub other_rows: u64,
+    /// Tiers shared, and cents held.
+    pub leftovers: Leftovers,
     pub differences: Vec<String>,
 }
 
@@ -73,6 +76,7 @@ impl Count {
         self.months += 1;
         self.kinds.take(&month.making);
         self.other_rows += u64::from(month.has_other_row());
+        self.leftovers.take_month(month);
         *self.rounds.entry(month.rounds).or_default() += 1;
         *self.participants.entry(month.n).or_default() += 1;
     }

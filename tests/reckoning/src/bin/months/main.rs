@@ -29,6 +29,7 @@ fn print_reach(count: &Count, refusals: u64, proportions: u64) {
     println!("{some} months with rounds, at most {most}");
     count.kinds.print("months");
     println!("{} months with another payable row than groups of one", count.other_rows);
+    count.leftovers.print("months");
     println!("{refusals} sets of arguments for the refusals");
     println!("{proportions} proportions");
 }
@@ -49,7 +50,7 @@ fn main() -> ExitCode {
     }
     print_reach(&count, refusals, proportions);
     println!("months: {} compared, {} differences", count.months, count.differences.len());
-    let covered = count.kinds.covered() && count.other_rows > 0;
+    let covered = count.kinds.covered() && count.other_rows > 0 && count.leftovers.covered();
     if !covered {
         println!("too little was compared");
     }
