@@ -10,7 +10,6 @@ use crate::handover::{handover, handover_of_demonstration};
 use crate::judge::first_difference;
 use crate::limits::{DEMONSTRATION, MARKET};
 use crate::pairs;
-use crate::program;
 use crate::same_payouts;
 use crate::totals::{Differences, Least, Listed, Tried};
 use crate::trials::{self, TRIALS, TRIALS_OF_ROUNDS};
@@ -94,12 +93,14 @@ impl Totals {
         );
     }
 
-    fn feed(&mut self, path: &str, name: &str, feed: &[u8]) {
-        self.listed.feed(&mut self.different, path, name, feed);
+    /// What a program printed for a feed, if it could be run.
+    fn feed(&mut self, path: &str, name: &str, feed: &[u8]) -> Option<Vec<u8>> {
+        self.listed.feed(&mut self.different, path, (name, feed))
     }
 
-    fn demonstrate(&mut self, path: &str, name: &str, feed: &[u8]) {
-        self.demonstrated.feed(&mut self.different, path, name, feed);
+    /// The same of a demonstration book.
+    fn demonstrate(&mut self, path: &str, name: &str, feed: &[u8]) -> Option<Vec<u8>> {
+        self.demonstrated.feed(&mut self.different, path, (name, feed))
     }
 
     /// What a program printed for a trial, if it could be run.
@@ -217,14 +218,11 @@ fn compare_listed_lists(totals: &mut Totals, programs: &Programs) {
     for seed in 0..same_payouts::FEEDS {
         let list = same_payouts::list_of_class(seed);
         let (name, feed) = (format!("feed of a list seed {seed}"), list.feed());
-        totals.feed(programs.listing, &name, &feed);
-        totals.demonstrate(programs.demonstration, &name, &feed);
-        let listed = [programs.demonstration, programs.listing].map(|it| program::run(it, &feed));
-        let what = match listed {
-            [Ok(small), Ok(large)] => first_difference(&small, &large),
-            [small, large] => small.err().or(large.err()),
-        };
-        if let Some(what) = what {
+        let large = totals.feed(programs.listing, &name, &feed);
+        let small = totals.demonstrate(programs.demonstration, &name, &feed);
+        // What cannot be run is among the differences.
+        let both = small.zip(large);
+        if let Some(what) = both.and_then(|(small, large)| first_difference(&small, &large)) {
             totals.different.show(&format!("{name}, by both listings"), &feed, &what);
         }
         totals.listed_lists.add(&list.seen);

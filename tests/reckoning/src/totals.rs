@@ -103,15 +103,22 @@ impl Listed {
         }
     }
 
-    /// Lists a feed by the program at a path, and holds it to the reckoning.
-    pub fn feed(&mut self, different: &mut Differences, path: &str, name: &str, feed: &[u8]) {
+    /// Lists a feed by the program at a path, and holds it to the reckoning; what the program printed,
+    /// if it could be run.
+    pub fn feed(
+        &mut self,
+        different: &mut Differences,
+        path: &str,
+        (name, feed): (&str, &[u8]),
+    ) -> Option<Vec<u8>> {
         self.feeds += 1;
         self.every_n.extend(feed.first());
-        let judged = program::run(path, feed);
-        match judged.and_then(|found| judge_within(self.limits, feed, &found)) {
+        let found = program::run(path, feed);
+        match found.clone().and_then(|found| judge_within(self.limits, feed, &found)) {
             Err(what) => different.show(&format!("{} {name}", self.of), feed, &what),
             Ok(count) => self.take(&count),
         }
+        found.ok()
     }
 
     fn take(&mut self, count: &Count) {
