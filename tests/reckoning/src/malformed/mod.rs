@@ -10,11 +10,12 @@ use crate::limits::{Limits, DEMONSTRATION, MARKET};
 use crate::program;
 use crate::refusals::*;
 use crate::totals::print_answers;
-use std::sync::atomic::{AtomicUsize, Ordering};
-use std::thread;
+use crate::workers;
 
 /// Differences printed in full; the others are only counted.
 const SHOWN: usize = 10;
+/// So many feeds are judged one after the other, and their totals kept as one.
+const AT_A_TIME: usize = 64;
 
 /// What some feeds came to.
 #[derive(Default)]
@@ -99,29 +100,21 @@ impl Totals {
     }
 }
 
-/// Judges feeds by their numbers, with a thread for each processor.
+/// Judges feeds by their numbers, so many at a time.
 fn judge_all(
     count: usize,
     feed: impl Fn(usize) -> Vec<u8> + Sync,
     program: &Program<impl Run>,
 ) -> Totals {
-    let next = AtomicUsize::new(0);
-    let judge_some = || {
+    let starts: Vec<usize> = (0..count).step_by(AT_A_TIME).collect();
+    let judge_some = |&start: &usize| {
         let mut totals = Totals::default();
-        loop {
-            let number = next.fetch_add(1, Ordering::Relaxed);
-            if number >= count {
-                return totals;
-            }
-            totals.judge(feed(number), program);
-        }
+        let numbers = start..count.min(start + AT_A_TIME);
+        numbers.for_each(|number| totals.judge(feed(number), program));
+        totals
     };
-    let processors = thread::available_parallelism().map_or(1, usize::from);
-    thread::scope(|scope| {
-        let threads: Vec<_> = (0..processors).map(|_| scope.spawn(judge_some)).collect();
-        let totals = threads.into_iter().map(|thread| thread.join().expect("a judge ends"));
-        totals.fold(Totals::default(), Totals::with)
-    })
+    let all = workers::for_each(&starts, judge_some);
+    all.into_iter().fold(Totals::default(), Totals::with)
 }
 
 fn judge_listed(name: &str, feeds: &[Vec<u8>], seen: &[u8], program: &Program<impl Run>) -> bool {
