@@ -2,14 +2,12 @@
 
 use crate::aim::{Aim, Scale};
 use crate::codec::{Entry, MOST_CENTS};
-use crate::period::Stage;
 use crate::purse::MOST_PURSE;
 
 impl Aim {
     /// A purse entry of a payer that has something unpaid in a noticed period, or of anyone.
     pub fn early_money(&mut self) -> Entry {
-        let noticed = |stage: &Stage| matches!(stage, Stage::Noticed(_));
-        let periods = self.book.periods.values().filter(|period| noticed(&period.stage));
+        let periods = self.book.periods.values().filter(|period| period.is_noticed());
         let unpaid: Vec<(u8, u128)> = periods
             .flat_map(|period| (0..self.book.n).map(|i| (i as u8, period.most_receipt(i))))
             .filter(|&(payer, unpaid)| unpaid > 0 && self.room(payer) > 0)

@@ -30,6 +30,10 @@ impl Period {
         matches!(self.stage, Stage::BeforeNotice)
     }
 
+    pub fn is_noticed(&self) -> bool {
+        matches!(self.stage, Stage::Noticed(_))
+    }
+
     pub fn is_settled(&self) -> bool {
         matches!(self.stage, Stage::Settled { .. })
     }

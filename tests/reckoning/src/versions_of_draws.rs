@@ -5,7 +5,7 @@ use crate::book::{Answer, Book};
 use crate::codec::{Entry, NOTICE, PURSE, RECEIPT, SETTLE};
 use crate::making::{Making, GROUPS};
 use crate::month;
-use crate::period::{Period, Stage};
+use crate::period::Stage;
 use crate::purse::Payer;
 use crate::refusals::{ACCEPTED, RECEIPT_ABOVE};
 use crate::retention::{g_of, is_member, largest_gifts, s_of};
@@ -83,8 +83,7 @@ fn and_then(
 
 /// Every noticed period draws, the oldest first.
 fn draw_everywhere(book: &mut Book) {
-    let noticed = |period: &Period| matches!(period.stage, Stage::Noticed(_));
-    let periods = book.periods.iter().filter(|(_, period)| noticed(period));
+    let periods = book.periods.iter().filter(|(_, period)| period.is_noticed());
     let numbers: Vec<u32> = periods.map(|(&number, _)| number).collect();
     for number in numbers {
         let drawn = book.drawn(number);
@@ -174,9 +173,8 @@ fn retention_less_the_purse(book: &mut Book, entry: &Entry, words: &mut [u64]) -
 }
 
 fn payable_less_the_purse(book: &mut Book, entry: &Entry, words: &mut [u64]) -> Answer {
-    let noticed = |period: &&Period| matches!(period.stage, Stage::Noticed(_));
     let payer = usize::from(entry.participant);
-    let period = book.periods.get(&entry.period).filter(noticed);
+    let period = book.periods.get(&entry.period).filter(|period| period.is_noticed());
     let stands = entry.kind == RECEIPT && book.refusal(entry, words.len()).is_none();
     if let Some(period) = period.filter(|_| stands) {
         let most = period.most_receipt(payer).saturating_sub(book.purses[payer]);

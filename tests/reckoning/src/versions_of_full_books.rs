@@ -6,7 +6,7 @@ use crate::codec::{Entry, OPEN, PURSE};
 use crate::limits::{DEMONSTRATION, MARKET};
 use crate::making::{Making, GROUPS};
 use crate::month::Sums;
-use crate::period::{Period, Stage};
+use crate::period::Period;
 use crate::refusals::*;
 use crate::retention::{g_of, largest_gifts, retention, s_of};
 use crate::versions::{applying, unbalanced, unequal, with_reserves, with_ways, wrong, Wrong};
@@ -25,14 +25,6 @@ fn count(book: &Book) -> u64 {
 fn full_of(book: &Book, counts: fn(&Period) -> bool) -> bool {
     let counted = book.periods.values().filter(|period| counts(period)).count();
     counted as u64 >= book.limits().periods
-}
-
-fn is_settled(period: &Period) -> bool {
-    matches!(period.stage, Stage::Settled { .. })
-}
-
-fn is_noticed(period: &Period) -> bool {
-    matches!(period.stage, Stage::Noticed(_))
 }
 
 /// Applies an entry; an opening that is refused with one of some numbers gets another where it is as
@@ -155,8 +147,8 @@ pub const WRONG: [Wrong; 25] = [
     wrong("periods ever opened counted", |m| {
         full_where(m, |book| book.opened >= book.limits().periods)
     }),
-    wrong("settled periods not counted", |m| full_where(m, |b| full_of(b, |p| !is_settled(p)))),
-    wrong("noticed periods not counted", |m| full_where(m, |b| full_of(b, |p| !is_noticed(p)))),
+    wrong("settled periods not counted", |m| full_where(m, |b| full_of(b, |p| !p.is_settled()))),
+    wrong("noticed periods not counted", |m| full_where(m, |b| full_of(b, |p| !p.is_noticed()))),
     wrong("periods before their notice not counted", |m| {
         full_where(m, |book| full_of(book, |period| !period.is_before_notice()))
     }),

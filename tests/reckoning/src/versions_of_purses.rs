@@ -4,7 +4,7 @@
 use crate::book::{Answer, Book};
 use crate::codec::{Entry, PURSE, SETTLE};
 use crate::making::Making;
-use crate::period::{Period, Stage};
+use crate::period::Period;
 use crate::purse::MOST_PURSE;
 use crate::refusals::*;
 use crate::versions::{applying, unbalanced, with_ways, wrong, Wrong};
@@ -140,26 +140,20 @@ fn period_looked_for(book: &mut Book, entry: &Entry, words: &mut [u64]) -> Answe
 }
 
 /// Whether there are periods, and none of them is at a stage.
-fn none_at(book: &Book, stage: fn(&Stage) -> bool) -> bool {
-    let mut periods = book.periods.values();
-    !book.periods.is_empty() && !periods.any(|period| stage(&period.stage))
+fn none_at(book: &Book, stage: fn(&Period) -> bool) -> bool {
+    !book.periods.is_empty() && !book.periods.values().any(stage)
 }
 
 fn asks_for_a_period_before_notice(book: &mut Book, entry: &Entry, words: &mut [u64]) -> Answer {
-    refusing(book, entry, words, WRONG_STAGE, |book| {
-        none_at(book, |stage| matches!(stage, Stage::BeforeNotice))
-    })
+    refusing(book, entry, words, WRONG_STAGE, |book| none_at(book, Period::is_before_notice))
 }
 
 fn asks_for_a_notice(book: &mut Book, entry: &Entry, words: &mut [u64]) -> Answer {
-    refusing(book, entry, words, WRONG_STAGE, |book| {
-        none_at(book, |stage| matches!(stage, Stage::Noticed(_)))
-    })
+    refusing(book, entry, words, WRONG_STAGE, |book| none_at(book, Period::is_noticed))
 }
 
 fn settled_period_is_9(book: &mut Book, entry: &Entry, words: &mut [u64]) -> Answer {
-    let settled = |period: &Period| matches!(period.stage, Stage::Settled { .. });
-    refusing(book, entry, words, WRONG_STAGE, |book| book.periods.values().any(settled))
+    refusing(book, entry, words, WRONG_STAGE, |book| book.periods.values().any(Period::is_settled))
 }
 
 fn arrears_are_14(book: &mut Book, entry: &Entry, words: &mut [u64]) -> Answer {

@@ -6,7 +6,7 @@ use crate::codec::{Entry, OPEN, RECEIPT, SETTLE};
 use crate::counts_of_limits::{Limited, Opening, Sight};
 use crate::limits::{Limits, MARKET, MOST_PARTICIPANTS, MOST_PERIODS};
 use crate::making::Making;
-use crate::period::Stage;
+use crate::period::Period;
 use crate::refusals::*;
 use std::collections::BTreeSet;
 
@@ -101,7 +101,7 @@ impl Watch {
     pub fn before(&mut self, book: &Book, entry: &Entry) {
         let (full, periods) = (book.is_full(), book.periods.len() as u64);
         let period = book.periods.get(&entry.period);
-        let settled = period.is_some_and(|period| matches!(period.stage, Stage::Settled { .. }));
+        let settled = period.is_some_and(Period::is_settled);
         self.found = Some(Found { entry: *entry, full, periods, settled });
     }
 

@@ -3,7 +3,6 @@
 use super::rotation::{scale_of, Rotation};
 use crate::aim::Scale;
 use crate::codec::Entry;
-use crate::period::Stage;
 
 /// In the last quarter of the feed one purse entry of so many fills a purse to about its bound.
 const FILLING: u64 = 16;
@@ -24,7 +23,7 @@ impl Rotation {
     fn someone_with_little_unpaid(&mut self) -> (u8, u128) {
         let book = &self.aim.book;
         let little = |&number: &u32| matches!(scale_of(number), Scale::Few | Scale::Hundreds);
-        let noticed = |number: &u32| matches!(book.periods[number].stage, Stage::Noticed(_));
+        let noticed = |number: &u32| book.periods[number].is_noticed();
         let numbers = book.periods.keys().filter(|number| little(number) && noticed(number));
         let unpaid: Vec<(u8, u128)> = numbers
             .flat_map(|number| book.payers(*number).into_iter().enumerate())

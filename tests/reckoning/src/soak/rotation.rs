@@ -9,7 +9,7 @@ use crate::codec::{Entry, Field, OPEN, RECEIPT, SETTLE};
 use crate::demand3::Count;
 use crate::halves::Half;
 use crate::making::Making;
-use crate::period::Stage;
+use crate::period::{Period, Stage};
 use crate::random::Random;
 use crate::refusals::ACCEPTED;
 use crate::watch_of_leftovers;
@@ -168,15 +168,15 @@ impl Rotation {
     }
 
     /// A period in the book at a stage.
-    pub(super) fn any_at(&mut self, fits: impl Fn(&Stage) -> bool) -> Option<u32> {
+    fn any_at(&mut self, fits: fn(&Period) -> bool) -> Option<u32> {
         let periods = self.aim.book.periods.iter();
         let numbers: Vec<u32> =
-            periods.filter(|(_, period)| fits(&period.stage)).map(|(&number, _)| number).collect();
+            periods.filter(|(_, period)| fits(period)).map(|(&number, _)| number).collect();
         (!numbers.is_empty()).then(|| self.aim.random.pick(&numbers))
     }
 
     fn receipt(&mut self) -> Option<Entry> {
-        let number = self.any_at(|stage| matches!(stage, Stage::Noticed(_)))?;
+        let number = self.any_at(Period::is_noticed)?;
         let mut payers = self.aim.payers(number);
         payers.retain(|&payer| !self.fails(payer, number));
         if payers.is_empty() {
@@ -188,7 +188,7 @@ impl Rotation {
 
     /// All of a payer's arrears in a period, or a small part of them.
     fn late_receipt(&mut self) -> Option<Entry> {
-        let number = self.any_at(|stage| matches!(stage, Stage::Settled { .. }))?;
+        let number = self.any_at(Period::is_settled)?;
         let payers = self.aim.payers(number);
         if payers.is_empty() {
             return None;
@@ -219,7 +219,7 @@ impl Rotation {
     /// Applies an entry to the book that is aimed by.
     fn take(&mut self, entry: &Entry) {
         let before = self.aim.book.periods.get(&entry.period);
-        let was_settled = before.is_some_and(|it| matches!(it.stage, Stage::Settled { .. }));
+        let was_settled = before.is_some_and(Period::is_settled);
         let half = before.and_then(|period| Half::of(entry, &period.sums));
         self.reach.purses.before(&self.aim.book, entry);
         self.reach.washups.before(&self.aim.book, entry);
