@@ -4,6 +4,8 @@
 /// What can be seen in such lists.
 #[derive(Clone, Copy, Debug, PartialEq, Eq)]
 pub enum Sight {
+    /// Lists of a demonstration book.
+    OfClass,
     /// Lists in which as many periods as the limit were in the book, and in which one was opened after
     /// another had left the full book.
     Filled,
@@ -30,7 +32,8 @@ pub enum Sight {
 use Sight::*;
 
 impl Sight {
-    pub const ALL: [Sight; 12] = [
+    pub const ALL: [Sight; 13] = [
+        OfClass,
         Filled,
         Reopened,
         Settlements,
@@ -47,6 +50,7 @@ impl Sight {
 
     pub fn name(self) -> &'static str {
         match self {
+            OfClass => "lists of a demonstration book",
             Filled => "lists that reach the period limit",
             Reopened => "that open a period after one left the full book",
             Settlements => "settlements that pay",

@@ -19,6 +19,8 @@ use crate::watch_of_lists::Watch;
 /// How many lists a comparison puts to books of random limits, and how many to both listing programs.
 pub const LISTS: u64 = 60;
 pub const FEEDS: u64 = 40;
+/// One list of so many that are put to books of random limits is of a demonstration book.
+const OF_CLASS: u64 = 4;
 /// How many entries a list has.
 const ENTRIES: usize = 160;
 
@@ -68,7 +70,8 @@ fn draw(make: Make, random: Random, making: Making, larger: Limits) -> List {
     List { making, larger, entries, seen: watch.seen }
 }
 
-/// The list for a seed, of random limits, groups and reserves.
+/// The list for a seed, of random limits, or those of a demonstration book, and random groups and
+/// reserves.
 pub fn list(seed: u64) -> List {
     list_by(Book::make, seed)
 }
@@ -76,7 +79,8 @@ pub fn list(seed: u64) -> List {
 /// The same, which a book that is made so accepts throughout.
 pub fn list_by(make: Make, seed: u64) -> List {
     let mut random = Random::new(seed.wrapping_mul(64).wrapping_add(52));
-    let limits = any_limits(&mut random);
+    let any = any_limits(&mut random);
+    let limits = if seed.is_multiple_of(OF_CLASS) { DEMONSTRATION } else { any };
     let most = limits.participants;
     let n = random.between(most.min(2), most.min(8));
     let making = match random.chance(3, 4) {

@@ -3,6 +3,7 @@
 use crate::book::{Answer, Book};
 use crate::codec::{Entry, OPEN, RECEIPT, SETTLE, WASHUP};
 use crate::counts_of_lists::{Lists, Sight};
+use crate::limits::DEMONSTRATION;
 use crate::making::Making;
 
 /// What an entry finds in the book.
@@ -27,6 +28,7 @@ impl Watch {
         let beyond: Vec<u8> = making.numbers().iter().copied().filter(|&it| it >= most).collect();
         let with_reserve = |group: &u8| making.reserves[usize::from(*group)] > 0;
         let mut seen = Lists { lists: 1, ..Lists::default() };
+        seen.see_if(making.limits == DEMONSTRATION, Sight::OfClass);
         seen.see_if(!beyond.is_empty(), Sight::GroupsBeyond);
         seen.see_if(beyond.iter().any(with_reserve), Sight::ReservesBeyond);
         Watch { seen, found: None, left: false }
