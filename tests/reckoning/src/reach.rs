@@ -7,14 +7,16 @@ use crate::making::Making;
 use crate::month;
 use crate::period::{Period, Stage};
 use crate::refusals::*;
-use crate::totals::print_answers;
+use crate::totals::{add, print_answers};
+use crate::watch_of_limits::Call;
 use std::collections::BTreeMap;
 
 /// What was seen in books that were made with groups and reserves.
 #[derive(Clone, Debug, Default)]
 pub struct Reach {
-    /// Makings by answer.
+    /// Makings by answer: by `G`, and by `L`, which gives limits too.
     pub makings: [u64; NUMBERS],
+    pub makings_of_limits: [u64; NUMBERS],
     /// Entries that came to a book refused with 3.
     pub to_refused: u64,
     /// Settled months by groups and reserves.
@@ -48,7 +50,8 @@ impl Reach {
     }
 
     pub fn add(&mut self, other: &Reach) {
-        self.makings.iter_mut().zip(other.makings).for_each(|(to, from)| *to += from);
+        add(&mut self.makings, &other.makings);
+        add(&mut self.makings_of_limits, &other.makings_of_limits);
         self.kinds.add(&other.kinds);
         let mut other = other.clone();
         for (to, from) in self.numbers().into_iter().zip(other.numbers()) {
@@ -56,16 +59,18 @@ impl Reach {
         }
     }
 
-    /// Whether every shape, every kind of reserves, every answer to a making and all else was seen.
+    /// Whether every shape, every kind of reserves, every answer to both makings and all else was seen.
     pub fn covered(&self) -> bool {
-        let answers = [ACCEPTED, FIELD_OUTSIDE, N_REFUSED];
-        answers.iter().all(|&number| self.makings[usize::from(number)] > 0)
+        let answers = [ACCEPTED, FIELD_OUTSIDE, N_REFUSED].map(usize::from);
+        let makings = [&self.makings, &self.makings_of_limits];
+        makings.iter().all(|counts| answers.iter().all(|&number| counts[number] > 0))
             && self.kinds.covered()
             && self.clone().numbers().iter().all(|count| **count > 0)
     }
 
     pub fn print(&self) {
-        print_answers("answers to makings", &self.makings);
+        print_answers("answers to makings by G", &self.makings);
+        print_answers("answers to makings by L", &self.makings_of_limits);
         println!("entries to a book refused with 3: {}", self.to_refused);
         self.kinds.print("settled months");
         println!(
@@ -91,17 +96,15 @@ pub struct Watch {
 }
 
 impl Watch {
-    /// A book was made as the listing makes one.
-    pub fn made_alone(&mut self) {
-        self.made = None;
+    /// A book was made by a call, of which only `B` gives no groups and reserves.
+    pub fn made(&mut self, call: Call, answer: u8) {
+        self.made = (call != Call::B).then_some(answer);
         self.rows_of_one.clear();
-    }
-
-    /// A book was made with groups and reserves.
-    pub fn made(&mut self, answer: u8) {
-        self.made = Some(answer);
-        self.rows_of_one.clear();
-        self.reach.makings[usize::from(answer)] += 1;
+        match call {
+            Call::B => (),
+            Call::G => self.reach.makings[usize::from(answer)] += 1,
+            Call::L => self.reach.makings_of_limits[usize::from(answer)] += 1,
+        }
     }
 
     /// An entry was put to a book. Before, the period that it names was as given, and so many cents
@@ -180,6 +183,7 @@ mod tests {
     use crate::trial;
     use crate::trials;
     use crate::trials_of_groups::{every_trial, Named};
+    use crate::trials_of_limits::{trial_of_limits, TRIALS_OF_LIMITS};
 
     fn reach_of(trials: impl Iterator<Item = Vec<u8>>) -> Reach {
         let mut reach = Reach::default();
@@ -195,7 +199,10 @@ mod tests {
             change(&mut less);
             all.push(less);
         };
-        [0, 3, 4].iter().for_each(|&number| without(&|less| less.makings[number] = 0));
+        for number in [0, 3, 4] {
+            without(&|less| less.makings[number] = 0);
+            without(&|less| less.makings_of_limits[number] = 0);
+        }
         (0..reach.kinds.shapes.len())
             .for_each(|place| without(&|less| less.kinds.shapes[place] = 0));
         (0..reach.kinds.reserves.len())
@@ -207,10 +214,11 @@ mod tests {
 
     #[test]
     fn the_trials_cover_all_and_a_part_of_it_is_too_little() {
-        let reach = reach_of(every_trial().map(|(_, calls)| calls));
+        let of_limits = (0..TRIALS_OF_LIMITS).map(trial_of_limits);
+        let reach = reach_of(every_trial().map(|(_, calls)| calls).chain(of_limits));
         assert!(reach.covered(), "{reach:?}");
         let less = without_one(&reach);
-        assert_eq!(less.len(), 3 + 8 + 5 + 8);
+        assert_eq!(less.len(), 3 + 3 + 8 + 5 + 8);
         assert!(less.iter().all(|less| !less.covered()));
     }
 
@@ -218,7 +226,9 @@ mod tests {
     fn each_part_of_the_trials_alone_is_too_little() {
         for part in ["making", "rounds"] {
             let of_part = every_trial().filter(|(name, _): &Named| name.contains(part));
-            assert!(!reach_of(of_part.map(|(_, calls)| calls)).covered(), "{part}");
+            let mut reach = reach_of(of_part.map(|(_, calls)| calls));
+            reach.makings_of_limits = [1; NUMBERS];
+            assert!(!reach.covered(), "{part}");
         }
     }
 

@@ -138,10 +138,7 @@ impl Trial {
 
     fn made(&mut self, call: Call, making: &Making) -> String {
         let (book, answer) = (self.book.ways.next)(&self.book, self.make, making);
-        match call {
-            Call::B => self.watch.made_alone(),
-            Call::G | Call::L => self.watch.made(answer),
-        }
+        self.watch.made(call, answer);
         self.limits.made(call, &self.book, making, answer);
         self.book = book;
         self.purses.new_book();
