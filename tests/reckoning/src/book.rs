@@ -195,7 +195,7 @@ impl Book {
         }
     }
 
-    /// 16 before 11, which is tested on the side that the amount lands on.
+    /// 16 before 11, which is tested on the side to which the amount goes.
     fn refusal_of_washup(&self, period: &Period, entry: &Entry) -> Option<u8> {
         if !(self.ways.earlier_stands)(self, entry) {
             return Some(EARLIER_PERIOD_OUTSIDE);

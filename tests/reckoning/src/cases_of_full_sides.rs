@@ -1,5 +1,5 @@
 //! Cases of washups (02, e) by hand on sides that are at their bound, or nearly: 11 is tested where
-//! the amount lands. 1 kWh at 20,000 is 23 cents, at 20,870 it is 24.0005, at 11,304 it is 12.9996.
+//! the amount goes. 1 kWh at 20,000 is 23 cents, at 20,870 it is 24.0005, at 11,304 it is 12.9996.
 
 use crate::by_hand::{pays, refused, stands, Case, Step};
 use crate::codec::{Entry, MOST_CENTS};

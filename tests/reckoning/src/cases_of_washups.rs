@@ -1,4 +1,4 @@
-//! Cases of washups (02, e) by hand: where an amount lands, how it is rounded, earlier periods that
+//! Cases of washups (02, e) by hand: where an amount goes, how it is rounded, earlier periods that
 //! stand and that do not, and every stage. 1 kWh at 20,000 is 23 cents; 100, 300, 500 and 700 kWh at
 //! 100 are 11.5, 34.5, 57.5 and 80.5, which go to 12, 34, 58 and 80.
 

@@ -28,21 +28,21 @@ pub enum Sight {
     /// From new to old as the next accepted washup after old to new, otherwise alike; and not of 0
     /// cents.
     ThereAndBack,
-    /// Accepted just up to the bound of the side that the amount lands on.
+    /// Accepted just up to the bound of the side to which the amount goes.
     UpToBound,
     DownToBound,
     /// Refused with 11 for a cent.
     UpPastBound,
     DownPastBound,
-    /// Accepted while the side that it does not land on is at its bound.
+    /// Accepted while the side to which it does not go is at its bound.
     UpOtherFull,
     DownStatedFull,
-    /// Refused with 11, where the side that it does not land on has room for it.
+    /// Refused with 11, where the side to which it does not go has room for it.
     UpOtherHasRoom,
     DownStatedHasRoom,
     /// Accepted and added nothing, while the stated side is at its bound.
     NothingOnFull,
-    /// Accepted, though the larger of both amounts would pass the bound where it lands.
+    /// Accepted, though the larger of both amounts would pass the bound where it goes.
     LargerPasses,
     /// Refused with 16: the period itself, 1 to 24 above it, 25 below it, and above it by so much
     /// that 32 bits would wrap to 1 to 24 below.

@@ -37,7 +37,7 @@ fn outside(entry: Entry) -> Entry {
     Entry { side: 2, ..entry }
 }
 
-/// Washups that pass the bound of the side that they land on, whose earlier period stands.
+/// Washups that pass the bound of the side to which they go, whose earlier period stands.
 fn past_bound() -> [Entry; 4] {
     [
         washup(BEFORE, 3, 2, 0, true),

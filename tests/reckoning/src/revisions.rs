@@ -53,7 +53,7 @@ impl Aim {
         entry
     }
 
-    /// One about the bound of the side that it lands on, in half of the cases, or any.
+    /// One about the bound of the side to which it goes, in half of the cases, or any.
     fn revision_for(&mut self, number: u32, side: u8) -> Revision {
         let about_bound = self.random.chance(1, 2).then(|| self.about_bound(number, side));
         let any = || quantities::any(&mut self.random, self.manner.scale);
@@ -77,7 +77,7 @@ impl Aim {
         self.any_before_notice().unwrap_or_else(|| self.any_period())
     }
 
-    /// Up or down by just the room of the side that it lands on, a cent less or more; nothing where
+    /// Up or down by just the room of the side to which it goes, a cent less or more; nothing where
     /// that is out of reach.
     fn about_bound(&mut self, number: u32, side: u8) -> Option<Revision> {
         let up = self.random.chance(1, 2);

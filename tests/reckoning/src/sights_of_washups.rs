@@ -43,7 +43,7 @@ impl Found {
         self.new.abs_diff(self.old)
     }
 
-    /// The room of the side that it lands on, and of the one that it does not.
+    /// The room of the side to which it goes, and of the other one.
     fn rooms(&self) -> (u128, u128) {
         match self.way() {
             Ordering::Less => (self.other_room, self.stated_room),
@@ -100,13 +100,13 @@ impl Found {
 
     /// What there is to see of the bounds, where it is accepted.
     pub fn accepted_at_bounds(&self) -> Vec<Sight> {
-        let (lands, other) = self.rooms();
+        let (room, other) = self.rooms();
         let to_bound = self.by_way(Sight::UpToBound, Sight::DownToBound);
         let full = self.by_way(Sight::UpOtherFull, Sight::DownStatedFull);
         let nothing_on_full = self.way() == Ordering::Equal && self.stated_room == 0;
-        let larger = self.old.max(self.new) > lands && self.way() != Ordering::Equal;
+        let larger = self.old.max(self.new) > room && self.way() != Ordering::Equal;
         [
-            to_bound.filter(|_| self.cents() == lands),
+            to_bound.filter(|_| self.cents() == room),
             full.filter(|_| other == 0),
             nothing_on_full.then_some(Sight::NothingOnFull),
             larger.then_some(Sight::LargerPasses),
@@ -118,10 +118,10 @@ impl Found {
 
     /// What there is to see where it is refused with 11.
     pub fn refused_with_11(&self) -> Vec<Sight> {
-        let (lands, other) = self.rooms();
+        let (room, other) = self.rooms();
         let past = self.by_way(Sight::UpPastBound, Sight::DownPastBound);
         let has_room = self.by_way(Sight::UpOtherHasRoom, Sight::DownStatedHasRoom);
-        let past = past.filter(|_| self.cents() == lands + 1);
+        let past = past.filter(|_| self.cents() == room + 1);
         past.into_iter().chain(has_room.filter(|_| self.cents() <= other)).collect()
     }
 

@@ -79,7 +79,7 @@ fn before(book: &mut Book, entry: &Entry, words: &mut [u64], first: u8) -> Answe
     instead(book, entry, words, &BEFORE_16[place..], sixteen)
 }
 
-/// Whether what a washup adds would pass the bound of the side that it lands on.
+/// Whether what a washup adds would pass the bound of the side to which it goes.
 fn passes(book: &Book, entry: &Entry) -> bool {
     let Some(period) = book.periods.get(&entry.period) else {
         return false;

@@ -122,7 +122,7 @@ fn changing(
     answer
 }
 
-/// The same where the new amount is less than the old one: so many cents, landed on a side.
+/// The same where the new amount is less than the old one: so many cents, added to a side.
 fn changing_down(
     book: &mut Book,
     entry: &Entry,
