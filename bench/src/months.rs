@@ -3,11 +3,11 @@
 use crate::batches::{timed, Times};
 use crate::library;
 use crate::slices::{self, Rest, PLACES};
+use reckoning::counts_of_leftovers::{By, Leftovers, Sight};
 use reckoning::groupings::{self, Reserves, Shape};
-use reckoning::month::{self, Notice, Settlement, TIERS};
+use reckoning::month::{self, Notice, Settlement};
 use reckoning::months::{self, Month};
 use reckoning::random::Random;
-use reckoning::sharing;
 use std::hint::black_box;
 
 /// Months of as many participants as a book takes.
@@ -131,20 +131,20 @@ fn checked(month: impl Fn(u64) -> Month, fits: impl Fn(&Month) -> bool) -> (Vec<
     (months, rows)
 }
 
-/// Prints in how many months a tier is shared with leftover cents (02, g).
+/// Prints in how many months a settlement, and the first late receipt, share a tier with leftover cents
+/// (02, g).
 fn print_leftovers(months: &[Month]) {
-    let has_cents = |wanted: &[[u128; TIERS]], money: u128| {
-        let shared = sharing::met(wanted, money).1;
-        shared.is_some_and(|shared| shared.leftover() > 0)
-    };
-    let settled = months.iter().filter(|month| has_cents(&month.sums.to, month.available));
-    let late = months.iter().map(|month| &month.late[0]);
-    let late = late.filter(|late| has_cents(&late.shortages, late.money));
+    let mut seen = Leftovers::default();
+    for month in months {
+        seen.take(By::Settlement, &month.sums.to, month.available);
+        seen.take(By::LateReceipt, &month.late[0].shortages, month.late[0].money);
+    }
+    let [one, more] = [Sight::OneCent, Sight::MoreCents].map(|sight| seen.of(sight));
     println!(
         "of {} months, a tier is shared with leftover cents in {} settlements and {} late receipts",
         months.len(),
-        settled.count(),
-        late.count()
+        one[0] + more[0],
+        one[1] + more[1]
     );
 }
 

@@ -42,8 +42,8 @@ pub struct Manner {
     pub purses: u64,
     /// So many of 100 proposals for a period before its notice are washups.
     pub washups: u64,
-    /// So many of 100 amounts have the tier and the cents of the one before that was owing to a
-    /// participant, so that shares of a tier come to be equal.
+    /// Of 100 entries of energy or amounts so many are the last amount owing to a participant once more,
+    /// owing to anyone, so that shares of a tier come to be equal.
     pub alike: u64,
 }
 

@@ -2,8 +2,9 @@
 //! late money that shares a tier, and months whose rounds leave cents held. But where it is told
 //! otherwise payer 0 owes all, so that all of its cents are payable, and each claim is what is owing.
 
-use crate::by_hand::{pays, stands, Case};
+use crate::by_hand::{pays, refused, stands, Case};
 use crate::codec::{Entry, MOST_CENTS};
+use crate::refusals::PERIOD_NOT_IN_BOOK;
 use crate::trials_of_groups::Named;
 
 /// A month of period 1 to its notice: cents owing by participants, and to them by tier.
@@ -109,7 +110,7 @@ fn all_of_it_late() -> Case<3> {
 /// Payer 0 owes 3 and pays them; payer 3 owes 5, where 2 are owing to it, and pays nothing. Retention is
 /// 0, 2, 2 and 1, payable are 3 and 4, and claims are 0, 3, 3 and 1 − 1 with 3 in arrears. 5 of 8 are 1
 /// 7/8, 1 7/8 and 1 1/4, so that V is 2, 2 and 1, and scaled are 2, 2 and −1. In one round 1 and 2 lose
-/// 1/2 each, rounded up: a cent is held. With the late cents it is 2 or 3 of the 4 that are short.
+/// 1/2 each, rounded up: a cent is held. With 1 or 2 late cents it is 2 or 3 of the 4 that are short.
 fn rounds_that_hold_one(name: &'static str) -> Case<4> {
     noticed(name, &[(0, 3), (3, 5)], &[(1, 5, 3), (2, 5, 3), (3, 5, 2)]).settled(
         0,
@@ -119,7 +120,7 @@ fn rounds_that_hold_one(name: &'static str) -> Case<4> {
     )
 }
 
-/// Payers 0 and 3 owe 6 each, where 3 are owing to each of four. Payer 0 is s = 3 and g = 9, and so is
+/// Payers 0 and 3 owe 6 each, where 3 are owing to each of four. Of payer 0 s is 3 and g is 9, and so of
 /// payer 3: retention is 1 each, payable are 4 and 4, and claims are 1, 3, 3 and 1 − 1 with 3 in arrears.
 /// 9 of 12 are 2 1/4 each, so that V is 3, 2, 2 and 2, and scaled are 1, 2, 2 and −1. In one round 0, 1
 /// and 2 lose a part of a cent, rounded up: two cents are held. With a late cent they are 3 of the 5 that
@@ -180,6 +181,15 @@ fn of_eight() -> Vec<Case<8>> {
     vec![most_leftover_cents()]
 }
 
+/// The last late receipt has met all claims, so that the period has left.
+fn ended<const N: usize>(cases: Vec<Case<N>>) -> Vec<Case<N>> {
+    let end = |mut case: Case<N>| {
+        case.steps.push(refused(Entry::settle(1), PERIOD_NOT_IN_BOOK, 0));
+        case
+    };
+    cases.into_iter().map(end).collect()
+}
+
 /// Each case by its name, as bytes.
 fn named<const N: usize>(
     cases: Vec<Case<N>>,
@@ -187,7 +197,7 @@ fn named<const N: usize>(
     bytes: fn(&Case<N>) -> Vec<u8>,
 ) -> impl Iterator<Item = Named> {
     let name = move |case: &Case<N>| format!("{what} of leftover cents, {}", case.name);
-    cases.into_iter().map(move |case| (name(&case), bytes(&case)))
+    ended(cases).into_iter().map(move |case| (name(&case), bytes(&case)))
 }
 
 pub fn trials() -> Vec<Named> {
@@ -216,17 +226,8 @@ mod tests {
 
     #[test]
     fn each_case_is_as_reckoned_in_both_books() {
-        hold_in_both(&of_three());
-        hold_in_both(&of_four());
-        hold_in_both(&of_eight());
-    }
-
-    /// The last late receipt meets all claims, so that each period leaves.
-    #[test]
-    fn each_case_ends_with_nothing_held() {
-        assert!(trials().iter().all(|(_, calls)| {
-            let lines = String::from_utf8(crate::trial::expected(calls)).expect("text");
-            lines.lines().last().is_some_and(|line| line.starts_with("apply 0 0 0 "))
-        }));
+        hold_in_both(&ended(of_three()));
+        hold_in_both(&ended(of_four()));
+        hold_in_both(&ended(of_eight()));
     }
 }

@@ -1,6 +1,7 @@
 //! Clause 14.59 of document 004 in its own order (02, d), on signed amounts and with 01's rounding.
 //! Step 4 of the settlement, which forms the deficit first, is held to it.
 
+use crate::month;
 use crate::months::{self, Month};
 
 /// Whether AO positive counts a participant, by its scaled amount.
@@ -97,8 +98,17 @@ fn two_rounds_by_paragraphs() {
     }
 }
 
+/// AP negative without a positive balance, from the start and after a round. No settlement comes to it.
+#[test]
+fn no_positive_balance_ends_the_rounds() {
+    assert_eq!(by_clause(&[0, 0, -5], &[1, 1, 0]), (vec![0, 0, 0], 0));
+    assert_eq!(by_clause(&[2, 3, -10], &[1, 1, 0]), (vec![0, 0, 0], 1));
+    assert_eq!(month::rounds(5, vec![0, 0], &[1, 1]), (vec![0, 0], 0));
+    assert_eq!(month::rounds(10, vec![2, 3], &[1, 1]), (vec![0, 0], 1));
+}
+
 /// The settlement's step 4 gives the clause's answer, in months of every number of rounds. The scaled
-/// amounts sum up to what was received, so that a negative one is never without a positive balance.
+/// amounts come to what was received, so that a negative one is never without a positive balance.
 #[test]
 fn the_settlement_goes_by_the_clause() {
     // No negative amount; one round; two; three or more.

@@ -23,7 +23,7 @@ pub enum Sight {
     /// A tier before it was met by some cents; a tier after it wants some.
     AfterMet,
     BeforeWanted,
-    /// As many leftover cents as shares with a remainder, but for one.
+    /// Two leftover cents or more, and one less than shares with a remainder.
     AllButOne,
     /// Of equal remainders some got a cent and some did not; and these differ in what is wanted.
     EqualsCut,
@@ -76,9 +76,9 @@ impl Sight {
             Tier5 => "in tier 5",
             AfterMet => "after a tier that was met",
             BeforeWanted => "before a tier that gets nothing",
-            AllButOne => "one less than remainders",
+            AllButOne => "more, one less than remainders",
             EqualsCut => "equal remainders cut",
-            UnlikeEqualsCut => "of other amounts",
+            UnlikeEqualsCut => "where the equals want unlike amounts",
             NoRemainder => "beside a share without a remainder",
             ToLess => "a cent to who wants less",
             ToHigher => "to a higher number",
@@ -91,7 +91,7 @@ impl Sight {
 #[derive(Clone, Copy, Debug, PartialEq, Eq)]
 pub enum Held {
     /// Settlements that leave cents held.
-    Some,
+    Cents,
     /// n − 2 of them: whose scaled amount is negative loses nothing by rounding, and one cent less than
     /// those that do is the most.
     Most,
@@ -102,11 +102,11 @@ pub enum Held {
 }
 
 impl Held {
-    pub const ALL: [Held; 4] = [Held::Some, Held::Most, Held::BesideLeftovers, Held::Late];
+    pub const ALL: [Held; 4] = [Held::Cents, Held::Most, Held::BesideLeftovers, Held::Late];
 
     pub fn name(self) -> &'static str {
         match self {
-            Held::Some => "settlements that leave cents held",
+            Held::Cents => "settlements that leave cents held",
             Held::Most => "just n - 2",
             Held::BesideLeftovers => "beside leftover cents",
             Held::Late => "late receipts on a period that held cents",

@@ -11,6 +11,7 @@ use crate::selftest::Report;
 use crate::trial;
 use crate::trials;
 use crate::trials_of_groups::{self, Named};
+use crate::trials_of_leftovers;
 use crate::trials_of_limits;
 use crate::trials_of_purses;
 use crate::trials_of_washups;
@@ -95,6 +96,23 @@ fn move_a_cent(lines: &mut [String]) -> bool {
     true
 }
 
+/// Moves a cent from the first payout word of the last entry that paid to the word after it.
+fn move_a_cent_of_words(lines: &mut [String]) -> bool {
+    let paid = |words: &[String]| words[0] == "apply" && words[1] == "0" && words.len() > 5;
+    for line in lines.iter_mut().rev() {
+        let mut words = words(line);
+        let Some(at) = (4..words.len() - 1).find(|&at| paid(&words) && words[at] != "0") else {
+            continue;
+        };
+        for (place, more) in [(at, -1), (at + 1, 1)] {
+            words[place] = (words[place].parse::<i64>().expect("a number") + more).to_string();
+        }
+        *line = words.join(" ");
+        return true;
+    }
+    false
+}
+
 /// Turns the last accepted entry that paid nothing and after which money is held into a refusal.
 fn refuse_accepted(lines: &mut [String]) -> bool {
     let fits = |words: &[String]| is_entry(words) && words[1..3] == ["0", "0"] && words[3] != "0";
@@ -147,12 +165,13 @@ const OF_LISTING: [Damage; 16] = [
     both("the header lost", |l| !l.remove(0).is_empty()),
 ];
 
-const OF_TRIAL: [Damage; 8] = [
+const OF_TRIAL: [Damage; 9] = [
     by_text("a book's answer changed", |l| raise(l, "book", 1, |_| true)),
     by_text("an answer changed", |l| raise(l, "apply", 1, |_| true)),
     by_text("the rounds changed", |l| raise(l, "apply", 2, |_| true)),
     by_text("held changed", |l| raise(l, "apply", 3, |_| true)),
     by_text("a payout word changed", |l| raise(l, "apply", 4, |_| true)),
+    by_text("a cent moved between two payout words", |l| move_a_cent_of_words(l)),
     by_text("a field read changed", |l| raise(l, "read 0", 4, |_| true)),
     by_text("a lent byte changed", |l| raise(l, "write", 3, |_| true)),
     by_text("a line lost", |l| lose(l, |_| true)),
@@ -199,6 +218,7 @@ fn chosen_feeds() -> Vec<Chosen> {
         (4, "purses"),
         (1, "washups"),
         (2, "washups"),
+        (1, "leftovers"),
     ] {
         let feed = feeds::feed(seed, kind).expect("a kind that exists");
         let (name, limits) = (format!("{kind} {seed}"), MARKET);
@@ -259,6 +279,7 @@ pub fn damage_trials(report: &mut Report) -> bool {
     chosen.extend(trials_of_purses::every_trial().take(3));
     chosen.extend(trials_of_washups::every_trial().take(3));
     chosen.extend(trials_of_limits::every_trial().take(3));
+    chosen.extend(trials_of_leftovers::every_trial().take(3));
     chosen.extend(
         pairs::pairs().into_iter().take(6).map(|pair| (format!("pair of {}", pair.of), pair.both)),
     );

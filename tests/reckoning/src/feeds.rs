@@ -55,7 +55,7 @@ pub const KINDS: [Kind; 17] = [
     kind("purses", 120, 600),
     // n of 2 to 6 and many washups.
     kind("washups", 120, 600),
-    // n of 2 to 8, equal amounts, and what is paid of them in parts.
+    // n of 2 to 8, and many equal amounts owing to participants.
     kind("leftovers", 120, 600),
 ];
 

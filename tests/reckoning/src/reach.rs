@@ -59,7 +59,8 @@ impl Reach {
         }
     }
 
-    /// Whether every shape, every kind of reserves, every answer to both makings and all else was seen.
+    /// Whether every shape, every kind of reserves, every answer to makings by `G` and by
+    /// `L`, and all else was seen.
     pub fn covered(&self) -> bool {
         let answers = [ACCEPTED, FIELD_OUTSIDE, N_REFUSED].map(usize::from);
         let makings = [&self.makings, &self.makings_of_limits];

@@ -81,8 +81,8 @@ impl Aim {
     /// that is out of reach.
     fn about_bound(&mut self, number: u32, side: u8) -> Option<Revision> {
         let up = self.random.chance(1, 2);
-        let lands_on = if up { side } else { 1 - side };
-        let room = self.room_on(number, lands_on);
+        let goes_to = if up { side } else { 1 - side };
+        let room = self.room_on(number, goes_to);
         if !quantities::in_reach(room) {
             return None;
         }

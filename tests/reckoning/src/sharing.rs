@@ -112,7 +112,7 @@ mod tests {
         assert_eq!(shared(&[4, 5], 1), [0, 1]);
     }
 
-    /// 2/3, 1/3 and 3/4 each. One of the four equals gets nothing, the one of the highest number.
+    /// 2/3, 1/3 and 3/4 each. One of the four equals gets no cent, the one of the highest number.
     #[test]
     fn equal_remainders_go_by_the_lower_number() {
         assert_eq!(shared(&[1, 1, 1], 2), [1, 1, 0]);
@@ -148,7 +148,8 @@ mod tests {
     }
 
     /// 4,999,999,999,999 1/2 and 1/2. Of three wanted that differ by a cent, the remainder of one cent
-    /// is the cents wanted, that of two is twice as much, and that of all but one is what they lack.
+    /// is the cents wanted, that of two is twice as much, and that of all but one is the total less
+    /// the cents wanted.
     #[test]
     fn remainders_of_large_products_are_exact() {
         let most = 10_000_000_000_000;

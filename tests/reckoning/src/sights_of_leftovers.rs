@@ -14,18 +14,16 @@ fn owners(shared: &Shared) -> (Vec<usize>, Vec<usize>) {
     (with_remainder, others)
 }
 
-/// Whether some pair of an owner of a cent and of one with a remainder and no cent is so.
-fn some_pair(shared: &Shared, is_so: impl Fn(usize, usize) -> bool) -> bool {
-    let (owners, others) = owners(shared);
-    owners.iter().any(|&i| others.iter().any(|&j| is_so(i, j)))
-}
-
 /// What there is to see of a tier that is shared with leftover cents.
 fn sights(shared: &Shared, wanted: &[[u128; TIERS]]) -> Vec<Sight> {
     let (remainders, shares) = (shared.remainders(), shared.shares());
     let (owners, others) = owners(shared);
     let of = &shared.wanted;
     let wants_in = |tier: usize| wanted.iter().any(|tiers| tiers[tier] > 0);
+    // Whether an owner of a cent and one with a remainder and no cent are so.
+    let some_pair = |is_so: &dyn Fn(usize, usize) -> bool| {
+        owners.iter().any(|&i| others.iter().any(|&j| is_so(i, j)))
+    };
     let equal = |i: usize, j: usize| remainders[i] == remainders[j];
     let seen = [
         (owners.len() == 1, Sight::OneCent),
@@ -33,12 +31,12 @@ fn sights(shared: &Shared, wanted: &[[u128; TIERS]]) -> Vec<Sight> {
         (true, Sight::TIERS[shared.tier]),
         ((0..shared.tier).any(wants_in), Sight::AfterMet),
         ((shared.tier + 1..TIERS).any(wants_in), Sight::BeforeWanted),
-        (others.len() == 1, Sight::AllButOne),
-        (some_pair(shared, equal), Sight::EqualsCut),
-        (some_pair(shared, |i, j| equal(i, j) && of[i] != of[j]), Sight::UnlikeEqualsCut),
+        (owners.len() > 1 && others.len() == 1, Sight::AllButOne),
+        (some_pair(&equal), Sight::EqualsCut),
+        (some_pair(&|i, j| equal(i, j) && of[i] != of[j]), Sight::UnlikeEqualsCut),
         ((0..of.len()).any(|i| of[i] > 0 && remainders[i] == 0), Sight::NoRemainder),
-        (some_pair(shared, |i, j| of[i] < of[j]), Sight::ToLess),
-        (some_pair(shared, |i, j| i > j), Sight::ToHigher),
+        (some_pair(&|i, j| of[i] < of[j]), Sight::ToLess),
+        (some_pair(&|i, j| i > j), Sight::ToHigher),
         (owners.iter().any(|&i| shares[i] == of[i]), Sight::AllWanted),
     ];
     seen.into_iter().filter(|(seen, _)| *seen).map(|(_, sight)| sight).collect()
@@ -72,7 +70,7 @@ impl Leftovers {
 
     /// A settlement of n participants left cents held, and gave so many leftover ones of a tier.
     pub fn take_held(&mut self, n: usize, held: u128, leftover: usize) {
-        self.see_held_if(held > 0, Held::Some);
+        self.see_held_if(held > 0, Held::Cents);
         self.see_held_if(held > 0 && held + 2 == n as u128, Held::Most);
         self.see_held_if(held > 0 && leftover > 0, Held::BesideLeftovers);
         self.most_held = self.most_held.max(held as u64);

@@ -1,5 +1,5 @@
-//! Trials of leftover cents (02, g): the cases by hand, and months of equal amounts, so that remainders
-//! are equal, which are paid in parts.
+//! Trials of leftover cents (02, g): the cases by hand, and months in which many amounts owing to
+//! participants are equal, so that remainders are equal.
 
 use crate::aim::Scale;
 use crate::cases_of_leftovers;
@@ -14,7 +14,8 @@ pub const TRIALS_OF_LEFTOVERS: u64 = 60;
 /// How many books a trial makes, and how many months each has.
 const BOOKS: u64 = 3;
 const MONTHS: u64 = 6;
-/// So many of 100 amounts owing to a participant are as the one before.
+/// Of 100 entries of energy or amounts so many are the last amount owing to a participant once more,
+/// owing to anyone.
 pub const ALIKE: u64 = 75;
 
 const EVERY_N: [u64; 9] = [2, 3, 3, 4, 5, 6, 8, 12, 64];

@@ -3,13 +3,13 @@
 
 use crate::book::Book;
 use crate::making::Making;
-use crate::month::TIERS;
-use crate::sharing::{self, add, met, Shared, Shares};
+use crate::month::{TIERS, TIER_5};
+use crate::sharing::{add, met, Shared, Shares};
 use crate::versions::{unbalanced, with_ways, wrong, Wrong};
 use std::cmp::Reverse;
 
 /// The right book, but for how tiers are shared, in settlement and with late money.
-pub(crate) fn sharing_so(making: &Making, shares: Shares) -> (Book, u8) {
+fn sharing_so(making: &Making, shares: Shares) -> (Book, u8) {
     with_ways(making, |ways| (ways.revised, ways.late) = (shares, shares))
 }
 
@@ -108,7 +108,7 @@ fn lowest_numbers_of_all(wanted: &[[u128; TIERS]], money: u128) -> Vec<u128> {
 }
 
 fn largest_wanted(wanted: &[[u128; TIERS]], money: u128) -> Vec<u128> {
-    by_order(wanted, money, wants, |shared, i| (Reverse(shared.wanted[i]), i))
+    by_order(wanted, money, has_remainder, |shared, i| (Reverse(shared.wanted[i]), i))
 }
 
 fn smallest_wanted(wanted: &[[u128; TIERS]], money: u128) -> Vec<u128> {
@@ -145,20 +145,20 @@ fn one_cent_alone(wanted: &[[u128; TIERS]], money: u128) -> Vec<u128> {
 }
 
 /// As before 02, g.
-pub(crate) fn all_held(wanted: &[[u128; TIERS]], money: u128) -> Vec<u128> {
+fn all_held(wanted: &[[u128; TIERS]], money: u128) -> Vec<u128> {
     shared_so(wanted, money, Shared::rounded_down)
 }
 
 fn held_before_tier_5(wanted: &[[u128; TIERS]], money: u128) -> Vec<u128> {
-    shared_so(wanted, money, |shared| match shared.tier + 1 {
-        TIERS => shared.shares(),
+    shared_so(wanted, money, |shared| match shared.tier {
+        TIER_5 => shared.shares(),
         _ => shared.rounded_down(),
     })
 }
 
 fn held_in_tier_5(wanted: &[[u128; TIERS]], money: u128) -> Vec<u128> {
-    shared_so(wanted, money, |shared| match shared.tier + 1 {
-        TIERS => shared.rounded_down(),
+    shared_so(wanted, money, |shared| match shared.tier {
+        TIER_5 => shared.rounded_down(),
         _ => shared.shares(),
     })
 }
@@ -206,7 +206,7 @@ fn slides_in_settlement(making: &Making) -> (Book, u8) {
 }
 
 fn higher_number_late(making: &Making) -> (Book, u8) {
-    with_ways(making, |ways| (ways.revised, ways.late) = (sharing::shares, higher_number))
+    with_ways(making, |ways| ways.late = higher_number)
 }
 
 pub const WRONG: [Wrong; 25] = [
@@ -233,6 +233,6 @@ pub const WRONG: [Wrong; 25] = [
     unbalanced("shares rounded to the nearest", |m| sharing_so(m, rounded_to_nearest)),
     unbalanced("leftover cents to the next tier", |m| sharing_so(m, slides)),
     unbalanced("leftover cents to the next tier in settlement alone", slides_in_settlement),
-    unbalanced("in settlement alone", in_settlement_alone),
-    unbalanced("in late money alone", in_late_money_alone),
+    unbalanced("leftover cents given in settlement alone", in_settlement_alone),
+    unbalanced("leftover cents given in late money alone", in_late_money_alone),
 ];

@@ -4,7 +4,7 @@
 use crate::book::{Answer, Book};
 use crate::codec::Entry;
 use crate::making::{Making, GROUPS};
-use crate::month::{self, Sums, TIERS};
+use crate::month::{self, Sums, TIER_5};
 use crate::retention::{g_of, is_member, s_of};
 use crate::sharing::Shared;
 use crate::versions::{applying, unbalanced, with_ways, wrong, Wrong};
@@ -38,7 +38,7 @@ fn retention_shared(sums: &Sums, making: &Making) -> Vec<u128> {
         let is_outside = |i: usize| !is_member(making, i, group);
         let of = |i: usize| if is_outside(i) { sums.tier_5(i) } else { 0 };
         let wanted = (0..sums.n()).map(of).collect();
-        let outside = Shared { tier: TIERS - 1, wanted, money: s }.shares();
+        let outside = Shared { tier: TIER_5, wanted, money: s }.shares();
         let one = |(i, share)| if is_outside(i) { share } else { sums.tier_5(i) * s / g };
         outside.into_iter().enumerate().map(one).collect()
     })
@@ -81,7 +81,7 @@ fn rounds_rounded_down(d: u128, balances: Vec<u128>, revised: &[u128]) -> (Vec<u
 /// What is lost in a round is shared as a tier is.
 fn rounds_shared(d: u128, balances: Vec<u128>, revised: &[u128]) -> (Vec<u128>, u64) {
     rounds_by(d, balances, revised, |money, v| {
-        Shared { tier: TIERS - 1, wanted: v.to_vec(), money }.shares()
+        Shared { tier: TIER_5, wanted: v.to_vec(), money }.shares()
     })
 }
 

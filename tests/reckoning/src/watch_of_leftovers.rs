@@ -135,7 +135,6 @@ mod tests {
             &[
                 (OneCent, [1, 2]),
                 (Tier5, [1, 2]),
-                (AllButOne, [1, 2]),
                 (EqualsCut, [1, 1]),
                 (NoRemainder, [1, 0]),
                 (ToHigher, [0, 1]),
@@ -149,7 +148,6 @@ mod tests {
                 (NoCent, [0, 1]),
                 (OneCent, [1, 0]),
                 (Tier5, [1, 0]),
-                (AllButOne, [1, 0]),
                 (EqualsCut, [1, 0]),
                 (UnlikeEqualsCut, [1, 0]),
                 (ToLess, [1, 0]),

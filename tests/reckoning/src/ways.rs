@@ -48,7 +48,7 @@ pub struct Ways {
 pub const RIGHT: Ways = Ways {
     retention,
     revised: sharing::shares,
-    late: sharing::shares,
+    late: month::late_payments,
     rounds: month::rounds,
     added: cents,
     tested: cents,

@@ -32,13 +32,14 @@ const SEED: u64 = 400;
 const NOT_REQUIRED: [Sight; 2] = [Sight::LaterArrears, Sight::BesideReceipts];
 /// Not required of washups: a soak's months do not come to the last period numbers.
 const WASHUPS_NOT_REQUIRED: [counts_of_washups::Sight; 1] = [counts_of_washups::Sight::LastNumbers];
-/// Required of leftover cents: a soak's amounts are mostly large, so that its remainders are seldom equal,
-/// and its months mostly come to tier 5.
+/// Required of leftover cents. The others are not: a soak's amounts are mostly large, so that remainders are
+/// seldom equal, and its months mostly come to tier 5.
 const LEFTOVERS_REQUIRED: [counts_of_leftovers::Sight; 5] = {
     use counts_of_leftovers::Sight::*;
     [MoreCents, Tier5, AfterMet, ToLess, ToHigher]
 };
-const HELD_REQUIRED: [Held; 3] = [Held::Some, Held::BesideLeftovers, Held::Late];
+/// n − 2 cents held are not required.
+const HELD_REQUIRED: [Held; 3] = [Held::Cents, Held::BesideLeftovers, Held::Late];
 /// A program that prints nothing for so long is ended.
 const LONGEST: Duration = Duration::from_secs(60);
 
