@@ -1,4 +1,4 @@
--- 01's listing of month A, month B and the other examples without a star (01, Reckoned examples), a month of related payers
+-- The listing of month A (01, its end; 02, g), month B and the other examples without a star (01, Reckoned examples), a month of related payers
 -- (02, a), one of energy with half cents (02, b) and one in which the rounds hold a cent until late money comes (02, g), from `step`;
 -- those at a limit stand in `Limits`.
 use Prim.Native.Nat.{ℕ, _+_}
