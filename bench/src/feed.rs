@@ -3,9 +3,9 @@
 //! In a year each entry names the next of the twelve periods, from their opening to the last late
 //! receipt. Nine in ten entries are energy or amounts, and accepted.
 
-use reckoning::book::Book;
-use reckoning::codec::{Entry, AMOUNT, ENERGY, MOST_CENTS};
-use reckoning::random::Random;
+use reckoning::generate::random::Random;
+use reckoning::rules::book::Book;
+use reckoning::rules::codec::{Entry, AMOUNT, ENERGY, MOST_CENTS};
 
 const ENTRIES: usize = 1_000_000;
 const YEARS: usize = 10;

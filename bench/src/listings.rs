@@ -5,7 +5,7 @@ use crate::batches::Times;
 use crate::feed::{self, Feed};
 use crate::processor::spent;
 use crate::refused::{self, Alike};
-use reckoning::codec::Entry;
+use reckoning::rules::codec::Entry;
 use std::fs::{self, File};
 use std::io;
 use std::path::{Path, PathBuf};

@@ -15,7 +15,7 @@ mod refused;
 #[path = "../../tests/reckoning/src/bin/months/slices.rs"]
 mod slices;
 
-use reckoning::limits::MARKET;
+use reckoning::rules::limits::MARKET;
 use std::io::{self, BufWriter, Write};
 use std::path::Path;
 
@@ -27,7 +27,7 @@ const USES: &str = "uses:
 /// The reckoning's listing, built by this program's profile.
 fn list() -> io::Result<()> {
     let mut out = BufWriter::with_capacity(1 << 16, io::stdout().lock());
-    reckoning::listing::list(MARKET, io::stdin().lock(), &mut out)?;
+    reckoning::programs::listing::list(MARKET, io::stdin().lock(), &mut out)?;
     out.flush()
 }
 

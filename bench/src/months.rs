@@ -3,11 +3,11 @@
 use crate::batches::{timed, Times};
 use crate::library;
 use crate::slices::{self, Rest, PLACES};
-use reckoning::counts_of_leftovers::{By, Leftovers, Sight};
-use reckoning::groupings::{self, Reserves, Shape};
-use reckoning::month::{self, Notice, Settlement};
-use reckoning::months::{self, Month};
-use reckoning::random::Random;
+use reckoning::coverage::leftovers::counts::{By, Leftovers, Sight};
+use reckoning::generate::groupings::{self, Reserves, Shape};
+use reckoning::generate::months::{self, Month};
+use reckoning::generate::random::Random;
+use reckoning::rules::month::{self, Notice, Settlement};
 use std::hint::black_box;
 
 /// Months of as many participants as a book takes.

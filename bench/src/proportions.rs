@@ -2,8 +2,8 @@
 
 use crate::batches::{timed, Times};
 use crate::library;
-use reckoning::codec::MOST_CENTS;
-use reckoning::random::Random;
+use reckoning::generate::random::Random;
+use reckoning::rules::codec::MOST_CENTS;
 use std::hint::black_box;
 use std::time::Duration;
 

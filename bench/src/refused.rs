@@ -4,11 +4,11 @@
 //! Of these refusals 5 cannot come from a feed, since the listing lends enough words.
 
 use crate::feed::N;
-use reckoning::book::Book;
-use reckoning::codec::Entry;
-use reckoning::limits::MOST_PERIODS;
-use reckoning::random::Random;
-use reckoning::refusals::{
+use reckoning::generate::random::Random;
+use reckoning::rules::book::Book;
+use reckoning::rules::codec::Entry;
+use reckoning::rules::limits::MOST_PERIODS;
+use reckoning::rules::refusals::{
     ACCEPTED, NOT_ABOVE_HIGHEST, N_REFUSED, PERIODS_AT_LIMIT, PERIOD_NOT_IN_BOOK,
 };
 

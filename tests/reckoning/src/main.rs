@@ -1,9 +1,12 @@
 //! The reckoning as a program; `reckoning` alone prints its uses.
 
 use reckoning::compare::Programs;
-use reckoning::limits::{Limits, DEMONSTRATION, MARKET};
+use reckoning::rules::limits::{Limits, DEMONSTRATION, MARKET};
 use reckoning::soak::Plan;
-use reckoning::{compare, example_feeds, feeds, listing, malformed, pairs, selftest, soak, trial};
+use reckoning::{
+    cases::feeds as example_feeds, compare, generate::feeds, malformed, pairs, programs::listing,
+    programs::trial, selftest, soak,
+};
 use std::io::{self, BufReader, BufWriter, Write};
 use std::process::ExitCode;
 

@@ -1,7 +1,7 @@
 //! Feeds with every value in every byte of an entry, and feeds cut after every byte.
 
-use crate::calls;
-use crate::codec::{Entry, MOST_CENTS};
+use crate::programs::calls;
+use crate::rules::codec::{Entry, MOST_CENTS};
 
 /// With the first there are participants that the book does not have, with the second none.
 pub const EVERY_N: [u8; 2] = [3, 64];

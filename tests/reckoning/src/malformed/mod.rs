@@ -5,12 +5,12 @@ mod noise;
 #[cfg(test)]
 mod tests;
 
+use crate::compare::program;
+use crate::compare::totals::print_answers;
+use crate::compare::workers;
 use crate::judge::judge_within;
-use crate::limits::{Limits, DEMONSTRATION, MARKET};
-use crate::program;
-use crate::refusals::*;
-use crate::totals::print_answers;
-use crate::workers;
+use crate::rules::limits::{Limits, DEMONSTRATION, MARKET};
+use crate::rules::refusals::*;
 
 /// Differences printed in full; the others are only counted.
 const SHOWN: usize = 10;

@@ -1,9 +1,11 @@
 //! Feeds of random bytes, from mere noise to right feeds with a few bytes changed.
 
-use crate::aim::{Aim, Manner, Scale};
-use crate::codec::{self, Entry, Field, LAST_KIND, MOST_CENTS, MOST_PRICE, MOST_QUANTITY, OPEN};
-use crate::making::Making;
-use crate::random::Random;
+use crate::generate::aim::{Aim, Manner, Scale};
+use crate::generate::random::Random;
+use crate::rules::codec::{
+    self, Entry, Field, LAST_KIND, MOST_CENTS, MOST_PRICE, MOST_QUANTITY, OPEN,
+};
+use crate::rules::making::Making;
 
 const FLAVOURS: u64 = 4;
 

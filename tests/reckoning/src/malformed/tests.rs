@@ -1,9 +1,9 @@
 //! The malformed feeds against listings in this process, right ones and wrong ones.
 
 use super::{bytes, judge_all, judge_malformed, noise, Feeds, Program, Run, Totals};
-use crate::book::Book;
-use crate::limits::{Limits, DEMONSTRATION, MARKET};
-use crate::listing::{listing, listing_within};
+use crate::programs::listing::{listing, listing_within};
+use crate::rules::book::Book;
+use crate::rules::limits::{Limits, DEMONSTRATION, MARKET};
 
 const FEEDS: usize = 2_000;
 

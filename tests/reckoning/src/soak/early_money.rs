@@ -1,8 +1,8 @@
 //! Money for purses (02, c) in the rotation.
 
 use super::rotation::{scale_of, Rotation};
-use crate::aim::Scale;
-use crate::codec::Entry;
+use crate::generate::aim::Scale;
+use crate::rules::codec::Entry;
 
 /// In the last quarter of the feed one purse entry of so many fills a purse to about its bound.
 const FILLING: u64 = 16;

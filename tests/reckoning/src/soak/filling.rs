@@ -1,8 +1,8 @@
 //! Energy, washups and amounts in the rotation, and how sides are filled to their bound.
 
 use super::rotation::{scale_of, Rotation};
-use crate::aim::Scale;
-use crate::codec::Entry;
+use crate::generate::aim::Scale;
+use crate::rules::codec::Entry;
 
 /// The sides of a period are filled to their bound, if at all, in the last entries before its
 /// notice, since nothing goes in after that: one in so many of a month, and at least so many.

@@ -11,12 +11,12 @@ mod tests;
 
 pub use plan::Plan;
 
-use crate::counts_of_leftovers::{self, Held};
-use crate::counts_of_washups;
-use crate::draws::Sight;
-use crate::limits::MOST_PARTICIPANTS;
-use crate::refusals::{EARLIER_PERIOD_OUTSIDE, NOT_ABOVE_HIGHEST, NO_PARTICIPANT};
-use crate::totals::print_answers;
+use crate::compare::totals::print_answers;
+use crate::coverage::leftovers::counts::{self as counts_of_leftovers, Held};
+use crate::coverage::purses::counts::Sight;
+use crate::coverage::washups::counts as counts_of_washups;
+use crate::rules::limits::MOST_PARTICIPANTS;
+use crate::rules::refusals::{EARLIER_PERIOD_OUTSIDE, NOT_ABOVE_HIGHEST, NO_PARTICIPANT};
 use memory::Memory;
 use rotation::{Reach, Rotation};
 use std::process::{Child, Command, Stdio};

@@ -1,7 +1,7 @@
 //! The plan of a long feed: how many months it has, and at what age a period is noticed, settled and
 //! paid off.
 
-use crate::limits::{Limits, MOST_PERIODS};
+use crate::rules::limits::{Limits, MOST_PERIODS};
 
 /// Ages of a period in hundredths of a month, where the period limit is twelve.
 const NOTICE_DUE: u64 = 300;

@@ -4,17 +4,17 @@
 
 use super::filling;
 use super::plan::Plan;
-use crate::aim::{Aim, Manner, Scale};
-use crate::codec::{Entry, Field, OPEN, RECEIPT, SETTLE};
-use crate::demand3::Count;
-use crate::halves::Half;
-use crate::making::Making;
-use crate::period::{Period, Stage};
-use crate::random::Random;
-use crate::refusals::ACCEPTED;
-use crate::watch_of_leftovers;
-use crate::watch_of_purses;
-use crate::watch_of_washups;
+use crate::coverage::halves::Half;
+use crate::coverage::leftovers::watch as watch_of_leftovers;
+use crate::coverage::purses::watch as watch_of_purses;
+use crate::coverage::washups::watch as watch_of_washups;
+use crate::generate::aim::{Aim, Manner, Scale};
+use crate::generate::random::Random;
+use crate::judge::demand3::Count;
+use crate::rules::codec::{Entry, Field, OPEN, RECEIPT, SETTLE};
+use crate::rules::making::Making;
+use crate::rules::period::{Period, Stage};
+use crate::rules::refusals::ACCEPTED;
 use std::collections::BTreeMap;
 
 /// So many entries, money for purses, come before the first opening.

@@ -3,7 +3,7 @@
 
 use super::rotation::{Reach, Rotation};
 use crate::judge::difference_after;
-use crate::listing;
+use crate::programs::listing;
 use std::io::{self, BufWriter, Read, Write};
 use std::sync::mpsc::{self, Receiver, SyncSender};
 use std::thread;

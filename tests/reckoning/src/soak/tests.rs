@@ -4,11 +4,11 @@ use super::plan::Plan;
 use super::rotation::{Reach, Rotation};
 use super::streams::{hold, Compared, Watch};
 use super::{covered, HELD_REQUIRED, LEFTOVERS_REQUIRED, NOT_REQUIRED, SEED, WASHUPS_NOT_REQUIRED};
-use crate::counts_of_leftovers::{self, Held};
-use crate::counts_of_washups;
-use crate::draws::Sight;
-use crate::limits::{DEMONSTRATION, MARKET};
-use crate::listing;
+use crate::coverage::leftovers::counts::{self as counts_of_leftovers, Held};
+use crate::coverage::purses::counts::Sight;
+use crate::coverage::washups::counts as counts_of_washups;
+use crate::programs::listing;
+use crate::rules::limits::{DEMONSTRATION, MARKET};
 use std::io::{self, BufWriter, Write};
 use std::thread;
 

@@ -2,9 +2,9 @@
 
 use crate::library;
 use crate::slices::{self, Rest};
-use reckoning::counts_of_leftovers::Leftovers;
-use reckoning::kinds::Kinds;
-use reckoning::months::Month;
+use reckoning::coverage::group_kinds::Kinds;
+use reckoning::coverage::leftovers::counts::Leftovers;
+use reckoning::generate::months::Month;
 use std::collections::BTreeMap;
 
 /// What was compared, and how it differed.

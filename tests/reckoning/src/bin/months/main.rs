@@ -9,7 +9,7 @@ mod refused_groups;
 mod slices;
 
 use compare::Count;
-use reckoning::months;
+use reckoning::generate::months;
 use slices::Rest;
 use std::process::ExitCode;
 

@@ -2,8 +2,8 @@
 
 use crate::compare::Count;
 use crate::library;
-use reckoning::codec::MOST_CENTS;
-use reckoning::random::Random;
+use reckoning::generate::random::Random;
+use reckoning::rules::codec::MOST_CENTS;
 
 /// Random triples of each of the three kinds.
 const TRIPLES: u64 = 200_000;

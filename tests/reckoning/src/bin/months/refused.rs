@@ -5,9 +5,9 @@ use crate::compare::Count;
 use crate::library;
 use crate::refused_groups;
 use crate::slices::{self, Rest, BEFORE, PLACES, TIER_PLACES};
-use reckoning::book::MOST_TOTAL;
-use reckoning::making::Making;
-use reckoning::months::{self, Month};
+use reckoning::generate::months::{self, Month};
+use reckoning::rules::book::MOST_TOTAL;
+use reckoning::rules::making::Making;
 
 /// The last participant.
 pub const LAST: usize = PLACES - 1;

@@ -3,11 +3,11 @@
 
 use crate::refused::{Arguments, Case, BUT_LATE, LAST, NONE, SETTLEMENT};
 use crate::slices::{self, Rest, PLACES};
-use reckoning::groupings::{self, Reserves, Shape};
-use reckoning::making::{Making, MOST_RESERVE};
-use reckoning::month;
-use reckoning::months::{self, Month};
-use reckoning::random::Random;
+use reckoning::generate::groupings::{self, Reserves, Shape};
+use reckoning::generate::months::{self, Month};
+use reckoning::generate::random::Random;
+use reckoning::rules::making::{Making, MOST_RESERVE};
+use reckoning::rules::month;
 use std::cmp::Ordering;
 
 /// The same with one group number, and nothing received: other groups make other amounts payable.

@@ -1,7 +1,7 @@
 //! Rows as the slices that the library takes and writes.
 
-use reckoning::making::{Making, GROUPS};
-use reckoning::month::{Sums, TIERS};
+use reckoning::rules::making::{Making, GROUPS};
+use reckoning::rules::month::{Sums, TIERS};
 
 pub const PLACES: usize = 64;
 pub const TIER_PLACES: usize = TIERS * PLACES;

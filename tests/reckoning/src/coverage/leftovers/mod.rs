@@ -1,0 +1,5 @@
+//! coverage leftovers
+
+pub mod counts;
+pub mod sights;
+pub mod watch;

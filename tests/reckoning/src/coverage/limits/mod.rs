@@ -1,0 +1,4 @@
+//! coverage limits
+
+pub mod counts;
+pub mod watch;

@@ -1,0 +1,4 @@
+//! coverage lists
+
+pub mod counts;
+pub mod watch;

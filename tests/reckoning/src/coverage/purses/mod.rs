@@ -1,0 +1,4 @@
+//! coverage purses
+
+pub mod counts;
+pub mod watch;

@@ -1,0 +1,5 @@
+//! coverage washups
+
+pub mod counts;
+pub mod sights;
+pub mod watch;

@@ -1,0 +1,4 @@
+//! generate makings
+
+pub mod groups;
+pub mod limits;

@@ -1,0 +1,5 @@
+//! programs
+
+pub mod calls;
+pub mod listing;
+pub mod trial;
