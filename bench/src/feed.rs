@@ -3,7 +3,7 @@
 //! In a year each entry names the next of the twelve periods, from their opening to the last late
 //! receipt. Nine in ten entries are energy or amounts, and accepted.
 
-use reckoning::generate::random::Random;
+use comparison::generate::random::Random;
 use reckoning::rules::book::Book;
 use reckoning::rules::codec::{Entry, AMOUNT, ENERGY, MOST_CENTS};
 

@@ -2,18 +2,11 @@
 
 mod batches;
 mod feed;
-// The test's way into the library; not all of it is used here.
-#[allow(dead_code)]
-#[path = "../../tests/reckoning/src/bin/months/library.rs"]
-mod library;
 mod listings;
 mod months;
 mod processor;
 mod proportions;
 mod refused;
-#[allow(dead_code)]
-#[path = "../../tests/reckoning/src/bin/months/slices.rs"]
-mod slices;
 
 use reckoning::rules::limits::MARKET;
 use std::io::{self, BufWriter, Write};

@@ -1,12 +1,14 @@
 //! Notice, settlement with rounds and a late receipt of whole months against the reckoning's own.
 
 use crate::batches::{timed, Times};
-use crate::library;
-use crate::slices::{self, Rest, PLACES};
-use reckoning::coverage::leftovers::counts::{By, Leftovers, Sight};
-use reckoning::generate::groupings::{self, Reserves, Shape};
-use reckoning::generate::months::{self, Month};
-use reckoning::generate::random::Random;
+use binding::exports;
+use binding::slices::{self, Rest, PLACES};
+use comparison::coverage::group_kinds::{Reserves, Shape};
+use comparison::coverage::leftovers::{By, Sight};
+use comparison::coverage::Seen;
+use comparison::generate::groupings;
+use comparison::generate::months::{self, Month};
+use comparison::generate::random::Random;
 use reckoning::rules::month::{self, Notice, Settlement};
 use std::hint::black_box;
 
@@ -48,19 +50,19 @@ impl Lent {
     fn notice(&mut self) -> bool {
         let given = [&self.by[..], &self.to, &self.groups, &self.reserves];
         let [a, b, _] = &mut self.out;
-        library::notice(given, PLACES, [a, b])
+        exports::notice(given, PLACES, [a, b])
     }
 
     /// The export takes no payable row, and reckons the notice too.
     fn settle(&mut self) -> u64 {
         let given = [&self.by[..], &self.to, &self.groups, &self.reserves];
         let [a, b, c] = &mut self.out;
-        library::settle(given, &self.received, PLACES, [a, b, c])
+        exports::settle(given, &self.received, PLACES, [a, b, c])
     }
 
     fn late(&mut self) -> bool {
         let [a, _, _] = &mut self.out;
-        library::late(&self.to, &self.claims, &self.paid, self.money, PLACES, a)
+        exports::late(&self.to, &self.claims, &self.paid, self.money, PLACES, a)
     }
 
     fn holds<const ROWS: usize>(&self, rows: [&[u128]; ROWS]) {
@@ -134,12 +136,12 @@ fn checked(month: impl Fn(u64) -> Month, fits: impl Fn(&Month) -> bool) -> (Vec<
 /// Prints in how many months a settlement, and the first late receipt, share a tier with leftover cents
 /// (02, g).
 fn print_leftovers(months: &[Month]) {
-    let mut seen = Leftovers::default();
+    let mut seen = Seen::default();
     for month in months {
-        seen.take(By::Settlement, &month.sums.to, month.available);
-        seen.take(By::LateReceipt, &month.late[0].shortages, month.late[0].money);
+        seen.see_shared(By::Settlement, &month.sums.to, month.available);
+        seen.see_shared(By::LateReceipt, &month.late[0].shortages, month.late[0].money);
     }
-    let [one, more] = [Sight::OneCent, Sight::MoreCents].map(|sight| seen.of(sight));
+    let [one, more] = [Sight::OneCent, Sight::MoreCents].map(|sight| seen.by_column(sight));
     println!(
         "of {} months, a tier is shared with leftover cents in {} settlements and {} late receipts",
         months.len(),

@@ -1,8 +1,8 @@
 //! The exact proportion against u128, on triples within 01's limits.
 
 use crate::batches::{timed, Times};
-use crate::library;
-use reckoning::generate::random::Random;
+use binding::exports;
+use comparison::generate::random::Random;
 use reckoning::rules::codec::MOST_CENTS;
 use std::hint::black_box;
 use std::time::Duration;
@@ -56,14 +56,14 @@ fn compare(name: &str, triple: fn(&mut Random) -> Triple) {
     let triples: Vec<Triple> = (0..TRIPLES).map(|_| triple(&mut random)).collect();
     for &[amount, part, whole] in &triples {
         let (ours, theirs) =
-            (library::proportion(amount, part, whole), on_u128(amount, part, whole));
+            (exports::proportion(amount, part, whole), on_u128(amount, part, whole));
         assert_eq!(ours, theirs, "{amount} x {part} / {whole}");
     }
     let mut times = Times::default();
     for _ in 0..PASSES {
         for some in triples.chunks(BATCH) {
             times.take(
-                || batch(some, library::proportion),
+                || batch(some, exports::proportion),
                 || batch(some, |a, p, w| on_u128(a, p, w)),
             );
         }

@@ -4,7 +4,7 @@
 //! Of these refusals 5 cannot come from a feed, since the listing lends enough words.
 
 use crate::feed::N;
-use reckoning::generate::random::Random;
+use comparison::generate::random::Random;
 use reckoning::rules::book::Book;
 use reckoning::rules::codec::Entry;
 use reckoning::rules::limits::MOST_PERIODS;

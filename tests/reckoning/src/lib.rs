@@ -1,15 +1,5 @@
 //! A reckoning of 01, with requests a to g of 02, on u128, written from the rules alone. It
 //! shares no code and no definitions with the clearing book that is tested by it.
 
-pub mod cases;
-pub mod compare;
-pub mod coverage;
-pub mod generate;
-pub mod judge;
-pub mod malformed;
-pub mod pairs;
 pub mod programs;
 pub mod rules;
-pub mod selftest;
-pub mod soak;
-pub mod trials;

@@ -1,4 +1,4 @@
-//! The bytes of calls to the trial program, and months that several callers take.
+//! The bytes of calls to the trial program.
 
 use crate::programs::trial::CALL_FIELDS;
 use crate::rules::codec::{width, Entry};
@@ -51,34 +51,4 @@ pub fn read(place: u64, bytes: &[u8]) -> Vec<u8> {
     call.extend(length.to_le_bytes());
     call.extend(bytes);
     call
-}
-
-/// Month A of 01 (n = 3): its amounts in the order given, and the notice.
-pub fn month_a_to_notice(period: u32) -> Vec<Entry> {
-    vec![
-        Entry::open(period),
-        Entry::amount(period, 0, 0, 0, 600),
-        Entry::amount(period, 2, 0, 0, 400),
-        Entry::amount(period, 1, 1, 1, 100),
-        Entry::amount(period, 1, 1, 5, 700),
-        Entry::amount(period, 2, 1, 5, 200),
-        Entry::notice(period),
-    ]
-}
-
-/// Month A to its settle entry, which leaves arrears of payer 0.
-pub fn month_a_to_settle(period: u32) -> Vec<Entry> {
-    let mut entries = month_a_to_notice(period);
-    entries.push(Entry::receipt(period, 0, 300));
-    entries.push(Entry::receipt(period, 2, 334));
-    entries.push(Entry::settle(period));
-    entries
-}
-
-/// Month A with its two late receipts.
-pub fn month_a_entries(period: u32) -> Vec<Entry> {
-    let mut entries = month_a_to_settle(period);
-    entries.push(Entry::receipt(period, 0, 100));
-    entries.push(Entry::receipt(period, 0, 200));
-    entries
 }

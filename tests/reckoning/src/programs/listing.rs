@@ -1,13 +1,6 @@
 //! The listing: from the bytes of a feed to the text that 01's listing program prints.
 
-use crate::coverage::leftovers::counts::Leftovers;
-use crate::coverage::leftovers::watch as watch_of_leftovers;
-use crate::coverage::limits::counts::Openings;
-use crate::coverage::limits::watch as watch_of_limits;
-use crate::coverage::purses::counts::Draws;
-use crate::coverage::purses::watch as watch_of_purses;
-use crate::coverage::washups::counts::Washups;
-use crate::coverage::washups::watch as watch_of_washups;
+use crate::programs::observer::{apply, Made, MadeBy, Observer};
 use crate::rules::book::{Book, Make};
 use crate::rules::codec::{self, Entry, LONGEST_ENTRY};
 use crate::rules::limits::{Limits, MARKET};
@@ -70,7 +63,7 @@ impl<R: Read> Feed<R> {
 }
 
 /// Prints an entry's line and a line for each non-zero payout.
-pub(crate) fn print_entry(
+pub fn print_entry(
     out: &mut impl Write,
     number: u64,
     answer: u8,
@@ -87,40 +80,25 @@ pub(crate) fn print_entry(
 
 /// Prints the listing of a feed in a book of some limits, reading the feed in blocks.
 pub fn list(limits: Limits, input: impl Read, out: &mut impl Write) -> io::Result<()> {
-    list_by((limits, Book::make), input, out, None)
+    list_by((limits, Book::make), input, out, &mut ())
 }
 
-/// What was seen in a listing.
-#[derive(Clone, Debug, Default)]
-pub struct Seen {
-    pub draws: Draws,
-    pub washups: Washups,
-    pub openings: Openings,
-    pub leftovers: Leftovers,
-}
-
-/// Watches the entries of a listing.
-#[derive(Default)]
-struct Watch {
-    purses: watch_of_purses::Watch,
-    washups: watch_of_washups::Watch,
-    limits: watch_of_limits::Watch,
-    leftovers: watch_of_leftovers::Watch,
-}
-
-/// Prints the listing of a feed where books are made so, and counts what is seen, if asked.
+/// The same where the book is made so, under the eyes of an observer.
 fn list_by(
     (limits, make): (Limits, Make),
     input: impl Read,
     out: &mut impl Write,
-    mut watch: Option<&mut Watch>,
+    observer: &mut impl Observer,
 ) -> io::Result<()> {
     let mut feed = Feed::new(input);
     writeln!(out, "entry answer paid held")?;
     let Some(n) = feed.n()? else {
         return Ok(());
     };
-    let mut book = make(&Making::within(limits, n.into())).0;
+    let making = Making::within(limits, n.into());
+    let (mut book, answer) = make(&making);
+    let before = &Book::alone(0);
+    observer.made(&Made { by: MadeBy::Listing, before, making: &making, answer });
     let mut number = 0;
     while let Some(found) = feed.next()? {
         number += 1;
@@ -129,37 +107,18 @@ fn list_by(
             Err(refusal) => return print_entry(out, number, refusal, &[], book.held()),
         };
         let mut words = vec![0; book.n];
-        if let Some(watch) = &mut watch {
-            watch.purses.before(&book, &entry);
-            watch.washups.before(&book, &entry);
-            watch.limits.before(&book, &entry);
-            watch.leftovers.before(&book, &entry);
-        }
-        let answer = book.apply(&entry, &mut words).number;
-        if let Some(watch) = &mut watch {
-            watch.purses.after(answer);
-            watch.washups.after(answer);
-            watch.limits.after(&book, answer);
-            watch.leftovers.after(&book, answer);
-        }
+        let answer = apply(&mut book, &entry, &mut words, observer).number;
         let payouts = if answer == ACCEPTED { &words[..] } else { &[] };
         print_entry(out, number, answer, payouts, book.held())?;
     }
     Ok(())
 }
 
-/// The listing of a feed that is in memory, where books are made so, and what was seen.
-pub fn lines_by(make: Make, feed: &[u8]) -> (Vec<u8>, Seen) {
-    lines_within(MARKET, make, feed)
-}
-
-/// The same in a book of some limits.
-pub fn lines_within(limits: Limits, make: Make, feed: &[u8]) -> (Vec<u8>, Seen) {
-    let (mut out, mut watch) = (Vec::new(), Watch::default());
-    list_by((limits, make), feed, &mut out, Some(&mut watch)).expect("memory takes every byte");
-    let (washups, openings) = (watch.washups.counts, watch.limits.counts.openings);
-    let leftovers = watch.leftovers.counts;
-    (out, Seen { draws: watch.purses.draws, washups, openings, leftovers })
+/// The listing of a feed that is in memory, where the book is made so, under the eyes of an observer.
+pub fn lines(by: (Limits, Make), feed: &[u8], observer: &mut impl Observer) -> Vec<u8> {
+    let mut out = Vec::new();
+    list_by(by, feed, &mut out, observer).expect("memory takes every byte");
+    out
 }
 
 /// The listing of a feed that is in memory.
@@ -169,5 +128,5 @@ pub fn listing(feed: &[u8]) -> Vec<u8> {
 
 /// The same in a book of some limits.
 pub fn listing_within(limits: Limits, feed: &[u8]) -> Vec<u8> {
-    lines_within(limits, Book::make, feed).0
+    lines((limits, Book::make), feed, &mut ())
 }

@@ -1,15 +1,6 @@
 //! The trial: from calls to the text that the trial program prints for them.
 
-use crate::coverage::groups::{Reach, Watch};
-use crate::coverage::halves::{Half, Halves};
-use crate::coverage::leftovers::counts::Leftovers;
-use crate::coverage::leftovers::watch as watch_of_leftovers;
-use crate::coverage::limits::counts::Limited;
-use crate::coverage::limits::watch::{self as watch_of_limits, Call};
-use crate::coverage::purses::counts::Draws;
-use crate::coverage::purses::watch as watch_of_purses;
-use crate::coverage::washups::counts::Washups;
-use crate::coverage::washups::watch as watch_of_washups;
+use crate::programs::observer::{apply, Made, MadeBy, Observer};
 use crate::rules::book::{Book, Make};
 use crate::rules::codec::{self, Entry, Field};
 use crate::rules::limits::Limits;
@@ -80,29 +71,11 @@ fn take_limited_making(input: &mut impl Read) -> Option<Making> {
     Some(Making { limits, ..making })
 }
 
-/// What was seen in a trial.
-#[derive(Clone, Debug, Default)]
-pub struct Seen {
-    /// In books made with groups and reserves.
-    pub reach: Reach,
-    /// In all books.
-    pub halves: Halves,
-    pub draws: Draws,
-    pub washups: Washups,
-    pub limits: Limited,
-    pub leftovers: Leftovers,
-}
-
-/// The book that calls go to, and what makes the next one.
-struct Trial {
+/// The book that calls go to, what makes the next one, and who watches them.
+struct Trial<'a, O: Observer> {
     book: Book,
     make: Make,
-    watch: Watch,
-    halves: Halves,
-    purses: watch_of_purses::Watch,
-    washups: watch_of_washups::Watch,
-    limits: watch_of_limits::Watch,
-    leftovers: watch_of_leftovers::Watch,
+    observer: &'a mut O,
 }
 
 fn call_read(input: &mut impl Read) -> Option<String> {
@@ -128,41 +101,18 @@ fn call_write(input: &mut impl Read) -> Option<String> {
     Some(with_numbers(format!("write {answer} {count}"), lent))
 }
 
-impl Trial {
-    fn new(make: Make) -> Trial {
-        // Before the first book is made, entries come to one without participants.
-        let (watch, halves) = (Watch::default(), Halves::default());
-        let (purses, washups, limits, leftovers) = Default::default();
-        Trial { book: Book::alone(0), make, watch, halves, purses, washups, limits, leftovers }
-    }
-
-    fn made(&mut self, call: Call, making: &Making) -> String {
-        let (book, answer) = (self.book.ways.next)(&self.book, self.make, making);
-        self.watch.made(call, answer);
-        self.limits.made(call, &self.book, making, answer);
+impl<O: Observer> Trial<'_, O> {
+    fn made(&mut self, by: MadeBy, making: &Making) -> String {
+        let (book, answer) = (self.make)(making);
+        self.observer.made(&Made { by, before: &self.book, making, answer });
         self.book = book;
-        self.purses.new_book();
-        self.washups.new_book();
         format!("book {answer}")
     }
 
     fn call_apply(&mut self, input: &mut impl Read) -> Option<String> {
         let entry = take_entry(input)?;
         let mut words = vec![WORD_BEFORE; take(input, 1)? as usize];
-        let before = self.book.periods.get(&entry.period).cloned();
-        let half = before.as_ref().and_then(|period| Half::of(&entry, &period.sums));
-        let purses = self.book.purses.iter().sum();
-        self.purses.before(&self.book, &entry);
-        self.washups.before(&self.book, &entry);
-        self.limits.before(&self.book, &entry);
-        self.leftovers.before(&self.book, &entry);
-        let answer = self.book.apply(&entry, &mut words);
-        self.purses.after(answer.number);
-        self.washups.after(answer.number);
-        self.limits.after(&self.book, answer.number);
-        self.leftovers.after(&self.book, answer.number);
-        self.halves.take(half, answer.number);
-        self.watch.applied(&self.book, (before.as_ref(), purses), &entry, answer);
+        let answer = apply(&mut self.book, &entry, &mut words, self.observer);
         let line = format!("apply {} {} {}", answer.number, answer.rounds, self.book.held());
         Some(with_numbers(line, words))
     }
@@ -170,40 +120,45 @@ impl Trial {
     /// The line of the next call; nothing where the trial program stops.
     fn call(&mut self, input: &mut impl Read) -> Option<String> {
         match take(input, 1)? as u8 {
-            b'B' => Some(self.made(Call::B, &Making::alone(take(input, 8)?))),
-            b'G' => Some(self.made(Call::G, &take_making(input)?)),
-            b'L' => Some(self.made(Call::L, &take_limited_making(input)?)),
+            b'B' => Some(self.made(MadeBy::B, &Making::alone(take(input, 8)?))),
+            b'G' => Some(self.made(MadeBy::G, &take_making(input)?)),
+            b'L' => Some(self.made(MadeBy::L, &take_limited_making(input)?)),
             b'A' => self.call_apply(input),
             b'R' => call_read(input),
             b'W' => call_write(input),
             _ => None,
         }
     }
+}
 
-    fn run(&mut self, mut input: impl Read, out: &mut impl Write) -> io::Result<()> {
-        while let Some(line) = self.call(&mut input) {
-            writeln!(out, "{line}")?;
-        }
-        Ok(())
+/// Prints a line for each call, where books are made so, under the eyes of an observer.
+fn run_by(
+    make: Make,
+    mut input: impl Read,
+    out: &mut impl Write,
+    observer: &mut impl Observer,
+) -> io::Result<()> {
+    // Before the first book is made, entries come to one without participants.
+    let mut trial = Trial { book: Book::alone(0), make, observer };
+    while let Some(line) = trial.call(&mut input) {
+        writeln!(out, "{line}")?;
     }
+    Ok(())
 }
 
 /// Prints a line for each call.
 pub fn run(input: impl Read, out: &mut impl Write) -> io::Result<()> {
-    Trial::new(Book::make).run(input, out)
+    run_by(Book::make, input, out, &mut ())
 }
 
-/// The lines for calls that are in memory, where books are made so, and what was seen.
-pub fn lines_by(make: Make, calls: &[u8]) -> (Vec<u8>, Seen) {
-    let (mut trial, mut out) = (Trial::new(make), Vec::new());
-    trial.run(calls, &mut out).expect("memory takes every byte");
-    let (reach, draws) = (trial.watch.reach, trial.purses.draws);
-    let (washups, limits) = (trial.washups.counts, trial.limits.counts);
-    let (halves, leftovers) = (trial.halves, trial.leftovers.counts);
-    (out, Seen { reach, halves, draws, washups, limits, leftovers })
+/// The lines for calls that are in memory, where books are made so, under the eyes of an observer.
+pub fn lines(make: Make, calls: &[u8], observer: &mut impl Observer) -> Vec<u8> {
+    let mut out = Vec::new();
+    run_by(make, calls, &mut out, observer).expect("memory takes every byte");
+    out
 }
 
 /// The lines for calls that are in memory.
 pub fn expected(calls: &[u8]) -> Vec<u8> {
-    lines_by(Book::make, calls).0
+    lines(Book::make, calls, &mut ())
 }

@@ -1,16 +1,16 @@
 //! The book: which entries it accepts, and what each accepted entry does.
 
+use crate::rules::addition::Addition;
 use crate::rules::codec::{
     Entry, Field, AMOUNT, ENERGY, MOST_CENTS, NOTICE, OPEN, PURSE, RECEIPT, SETTLE, WASHUP,
 };
 use crate::rules::limits::Limits;
 use crate::rules::making::Making;
 use crate::rules::month;
-use crate::rules::overrides::{self as ways, Ways};
 use crate::rules::period::{Period, Stage};
 use crate::rules::purse::{Payer, MOST_PURSE};
+use crate::rules::readings::{self, Readings};
 use crate::rules::refusals::*;
-use crate::rules::washup::Addition;
 use std::collections::BTreeMap;
 
 /// Each side's total over a period is at most this.
@@ -28,38 +28,17 @@ pub struct Book {
     pub n: usize,
     /// What the book was made with.
     pub making: Making,
-    /// Only wrong versions have other ways than the right ones.
-    pub ways: Ways,
+    /// Only wrong versions have others than the right ones.
+    pub readings: Readings,
     pub highest: u32,
     /// The periods in the book; the oldest has the lowest number.
     pub periods: BTreeMap<u32, Period>,
-    /// How many periods were ever opened, which only a wrong version looks at.
-    pub opened: u64,
     /// Each participant's purse.
     pub purses: Vec<u128>,
 }
 
 /// Makes a book: the book, and 0 or the refusal's number.
 pub type Make = fn(&Making) -> (Book, u8);
-
-/// Gives the cents of an energy or amount entry.
-pub type Cents = fn(&Entry) -> u128;
-
-/// Cents that an energy or amount entry adds.
-pub fn cents(entry: &Entry) -> u128 {
-    match entry.kind {
-        ENERGY => month::energy_cents(entry.quantity, entry.price),
-        _ => entry.cents.into(),
-    }
-}
-
-/// The tier that an energy or amount entry goes to on side 1.
-pub fn tier(entry: &Entry) -> usize {
-    match entry.kind {
-        ENERGY => 5,
-        _ => entry.tier.into(),
-    }
-}
 
 impl Book {
     /// The book that is made so, and 0 or the refusal's number. Every refusal hands back the same
@@ -77,10 +56,9 @@ impl Book {
     }
 
     /// The book of a making, without a test of it.
-    pub(crate) fn with(making: Making) -> Book {
-        let (n, periods) = (making.n as usize, BTreeMap::new());
-        let (ways, purses) = (ways::RIGHT, vec![0; n]);
-        Book { n, making, ways, highest: 0, periods, opened: 0, purses }
+    pub fn with(making: Making) -> Book {
+        let (n, readings, periods) = (making.n as usize, readings::RIGHT, BTreeMap::new());
+        Book { n, making, readings, highest: 0, periods, purses: vec![0; n] }
     }
 
     pub fn limits(&self) -> Limits {
@@ -94,11 +72,11 @@ impl Book {
 
     /// The cents held in the book.
     pub fn held(&self) -> u128 {
-        (self.ways.held)(self)
+        (self.readings.held)(self)
     }
 
     /// Those of its periods and its purses.
-    pub(crate) fn all_held(&self) -> u128 {
+    pub fn all_held(&self) -> u128 {
         let in_periods: u128 = self.periods.values().map(Period::held).sum();
         in_periods + self.purses.iter().sum::<u128>()
     }
@@ -130,7 +108,7 @@ impl Book {
     }
 
     /// What each payer has drawn when a noticed period settles.
-    pub(crate) fn drawn(&self, number: u32) -> Vec<u128> {
+    pub fn drawn(&self, number: u32) -> Vec<u128> {
         self.payers(number).iter().map(Payer::drawn).collect()
     }
 
@@ -156,7 +134,7 @@ impl Book {
         if period <= self.highest {
             return Some(NOT_ABOVE_HIGHEST);
         }
-        (self.ways.full)(self).then_some(PERIODS_AT_LIMIT)
+        (self.readings.full)(self).then_some(PERIODS_AT_LIMIT)
     }
 
     fn refusal_of_purse(&self, entry: &Entry) -> Option<u8> {
@@ -180,11 +158,11 @@ impl Book {
             return Some(WRONG_STAGE);
         }
         match entry.kind {
-            ENERGY | AMOUNT => {
-                let passes = period.passes_bound(entry.side, (self.ways.tested)(entry));
-                passes.then_some(TOTAL_PASSES_BOUND)
+            WASHUP if !(self.readings.earlier_stands)(self, entry) => Some(EARLIER_PERIOD_OUTSIDE),
+            ENERGY | AMOUNT | WASHUP => {
+                let passes = |to: Addition| period.passes_bound(to.side, to.cents);
+                (self.readings.tested)(entry).is_some_and(passes).then_some(TOTAL_PASSES_BOUND)
             }
-            WASHUP => self.refusal_of_washup(period, entry),
             NOTICE => (period.sums.total(0) != period.sums.total(1)).then_some(SIDES_UNEQUAL),
             RECEIPT if self.barred(entry.period, participant) => Some(EARLIER_ARREARS),
             RECEIPT => {
@@ -195,22 +173,8 @@ impl Book {
         }
     }
 
-    /// 16 before 11, which is tested on the side to which the amount goes.
-    fn refusal_of_washup(&self, period: &Period, entry: &Entry) -> Option<u8> {
-        if !(self.ways.earlier_stands)(self, entry) {
-            return Some(EARLIER_PERIOD_OUTSIDE);
-        }
-        let passes = |to: Addition| period.passes_bound(to.side, to.cents);
-        (self.ways.washup_tested)(entry).is_some_and(passes).then_some(TOTAL_PASSES_BOUND)
-    }
-
     /// Applies an entry; an accepted one sets the first n payout words.
     pub fn apply(&mut self, entry: &Entry, words: &mut [u64]) -> Answer {
-        (self.ways.applied)(self, entry, words)
-    }
-
-    /// Applies an entry as the rules do.
-    pub(crate) fn applied(&mut self, entry: &Entry, words: &mut [u64]) -> Answer {
         if let Some(number) = self.refusal(entry, words.len()) {
             return Answer { number, rounds: 0 };
         }
@@ -226,7 +190,6 @@ impl Book {
         match entry.kind {
             OPEN => {
                 self.highest = entry.period;
-                self.opened += 1;
                 self.periods.insert(entry.period, Period::new(self.n));
                 (vec![0; self.n], 0)
             }
@@ -240,32 +203,24 @@ impl Book {
 
     /// What an accepted entry does that names a period in the book.
     fn accept_on_period(&mut self, entry: &Entry) -> (Vec<u128>, u64) {
-        if entry.kind == SETTLE {
-            let drawn = (self.ways.drawn)(self, entry.period);
-            self.draw(entry.period, &drawn);
+        match entry.kind {
+            NOTICE => self.notice(entry.period),
+            SETTLE => self.draw(entry.period),
+            _ => (),
         }
-        let nothing = vec![0; self.n];
+        let nothing = (vec![0; self.n], 0);
         let period = self.periods.get_mut(&entry.period).expect("in the book");
         let participant = usize::from(entry.participant);
         let result = match entry.kind {
-            ENERGY | AMOUNT => {
-                period.sums.add(participant, entry.side, tier(entry), (self.ways.added)(entry));
-                (nothing, 0)
-            }
-            WASHUP => {
-                if let Some(Addition { side, tier, cents }) = (self.ways.washup_added)(entry) {
+            ENERGY | AMOUNT | WASHUP => {
+                if let Some(Addition { side, tier, cents }) = (self.readings.added)(entry) {
                     period.sums.add(participant, side, tier, cents);
                 }
-                (nothing, 0)
+                nothing
             }
-            NOTICE => {
-                let retention = (self.ways.retention)(&period.sums, &self.making);
-                period.stage = Stage::Noticed(month::notice_by(&period.sums, retention));
-                (nothing, 0)
-            }
-            RECEIPT => (period.receive(participant, entry.cents.into(), self.ways.late), 0),
-            SETTLE => period.settle((self.ways.revised, self.ways.rounds)),
-            kind => panic!("no such kind: {kind}"),
+            RECEIPT => (period.receive(participant, entry.cents.into(), self.readings.late), 0),
+            SETTLE => period.settle((self.readings.revised, self.readings.rounds)),
+            _ => nothing,
         };
         if period.settled_without_arrears() {
             self.periods.remove(&entry.period);
@@ -273,8 +228,15 @@ impl Book {
         result
     }
 
-    /// Moves cents from each purse into a period that is not settled, as receipts.
-    pub(crate) fn draw(&mut self, number: u32, drawn: &[u128]) {
+    fn notice(&mut self, number: u32) {
+        let retention = (self.readings.retention)(self, &self.periods[&number].sums);
+        let period = self.periods.get_mut(&number).expect("in the book");
+        period.stage = Stage::Noticed(month::notice_by(&period.sums, retention));
+    }
+
+    /// Moves what each payer has drawn from its purse into a period, as receipts, before step 1.
+    fn draw(&mut self, number: u32) {
+        let drawn = (self.readings.drawn)(self, number);
         let period = self.periods.get_mut(&number).expect("in the book");
         for (payer, cents) in drawn.iter().enumerate() {
             self.purses[payer] -= cents;

@@ -21,7 +21,7 @@ pub struct Period {
 }
 
 impl Period {
-    pub(crate) fn new(n: usize) -> Period {
+    pub fn new(n: usize) -> Period {
         let (received, paid) = (vec![0; n], vec![0; n]);
         Period { sums: Sums::new(n), stage: Stage::BeforeNotice, received, paid }
     }
@@ -38,20 +38,22 @@ impl Period {
         matches!(self.stage, Stage::Settled { .. })
     }
 
-    /// What a side has room for; a wrong version's total may be past its bound.
+    /// What a side has room for.
     pub fn room(&self, side: u8) -> u128 {
-        MOST_TOTAL.saturating_sub(self.sums.total(side))
+        let room = MOST_TOTAL.checked_sub(self.sums.total(side));
+        room.expect("a side's total is within its bound")
     }
 
     /// Whether so many cents more would pass the bound of a side.
-    pub(crate) fn passes_bound(&self, side: u8, cents: u128) -> bool {
+    pub fn passes_bound(&self, side: u8, cents: u128) -> bool {
         self.sums.total(side) + cents > MOST_TOTAL
     }
 
-    /// What was received and not paid; a wrong version may have paid more than it received.
+    /// What was received and not paid.
     pub fn held(&self) -> u128 {
         let received: u128 = self.received.iter().sum();
-        received.saturating_sub(self.paid.iter().sum())
+        let held = received.checked_sub(self.paid.iter().sum());
+        held.expect("no more is paid than was received")
     }
 
     /// Arrears of a payer once the period is settled; 0 before.
@@ -71,14 +73,14 @@ impl Period {
         }
     }
 
-    pub(crate) fn settled_without_arrears(&self) -> bool {
+    pub fn settled_without_arrears(&self) -> bool {
         match &self.stage {
             Stage::Settled { arrears, .. } => arrears.iter().all(|&cents| cents == 0),
             _ => false,
         }
     }
 
-    pub(crate) fn stage_takes(&self, kind: u8) -> bool {
+    pub fn stage_takes(&self, kind: u8) -> bool {
         match self.stage {
             Stage::BeforeNotice => matches!(kind, ENERGY | AMOUNT | WASHUP | NOTICE),
             Stage::Noticed(_) => matches!(kind, RECEIPT | SETTLE),
@@ -87,7 +89,7 @@ impl Period {
     }
 
     /// Adds a receipt and gives what it pays each participant, where tiers are shared so.
-    pub(crate) fn receive(&mut self, payer: usize, cents: u128, shares: Shares) -> Vec<u128> {
+    pub fn receive(&mut self, payer: usize, cents: u128, shares: Shares) -> Vec<u128> {
         self.received[payer] += cents;
         let held = self.held();
         let Stage::Settled { claim, arrears } = &mut self.stage else {
@@ -104,7 +106,7 @@ impl Period {
 
     /// Settles, and gives what is paid to each participant and the rounds run, where the tier that is
     /// not met is shared so, and the rounds run so.
-    pub(crate) fn settle(&mut self, ways: (Shares, Rounds)) -> (Vec<u128>, u64) {
+    pub fn settle(&mut self, ways: (Shares, Rounds)) -> (Vec<u128>, u64) {
         let Stage::Noticed(notice) = &self.stage else {
             panic!("settled at a wrong stage");
         };

@@ -3,22 +3,19 @@
 use crate::rules::making::{Making, GROUPS};
 use crate::rules::month::Sums;
 
-/// Gives A_i for every i.
-pub type Retention = fn(&Sums, &Making) -> Vec<u128>;
-
 /// Whether a participant is in a group.
-pub(crate) fn is_member(making: &Making, i: usize, group: usize) -> bool {
+pub fn is_member(making: &Making, i: usize, group: usize) -> bool {
     usize::from(making.groups[i]) == group
 }
 
 /// The group's sum of B − O, which can be below 0.
-pub(crate) fn group_sum(sums: &Sums, making: &Making, group: usize) -> i128 {
+pub fn group_sum(sums: &Sums, making: &Making, group: usize) -> i128 {
     let members = (0..sums.n()).filter(|&i| is_member(making, i, group));
     members.map(|i| sums.owing_by(i) as i128 - sums.owing_to(i) as i128).sum()
 }
 
 /// s: the group's sum of B − O and its reserve where that sum is positive, else 0.
-pub(crate) fn s_of(sums: &Sums, making: &Making, group: usize) -> u128 {
+pub fn s_of(sums: &Sums, making: &Making, group: usize) -> u128 {
     match group_sum(sums, making, group) {
         sum if sum > 0 => sum.unsigned_abs() + u128::from(making.reserves[group]),
         _ => 0,
@@ -26,13 +23,13 @@ pub(crate) fn s_of(sums: &Sums, making: &Making, group: usize) -> u128 {
 }
 
 /// g: the sum of G outside the group.
-pub(crate) fn g_of(sums: &Sums, making: &Making, group: usize) -> u128 {
+pub fn g_of(sums: &Sums, making: &Making, group: usize) -> u128 {
     let outside = (0..sums.n()).filter(|&i| !is_member(making, i, group));
     outside.map(|i| sums.tier_5(i)).sum()
 }
 
 /// What a group gives i, from G_i and the group's s and g.
-pub(crate) fn gift(tier_5: u128, s: u128, g: u128) -> u128 {
+pub fn gift(tier_5: u128, s: u128, g: u128) -> u128 {
     if g == 0 || s == 0 {
         0
     } else if s >= g {
@@ -43,7 +40,7 @@ pub(crate) fn gift(tier_5: u128, s: u128, g: u128) -> u128 {
 }
 
 /// The largest of what the groups give i, for every i; s and g stand there by group.
-pub(crate) fn largest_gifts(sums: &Sums, s_and_g: &[(u128, u128)]) -> Vec<u128> {
+pub fn largest_gifts(sums: &Sums, s_and_g: &[(u128, u128)]) -> Vec<u128> {
     let largest = |i: usize| {
         let gifts = s_and_g.iter().map(|&(s, g)| gift(sums.tier_5(i), s, g));
         gifts.max().unwrap_or(0)

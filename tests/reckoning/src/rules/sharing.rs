@@ -82,7 +82,7 @@ pub fn met(wanted: &[[u128; TIERS]], money: u128) -> (Vec<u128>, Option<Shared>)
     (all, None)
 }
 
-pub(crate) fn add(to: &mut [u128], more: &[u128]) {
+pub fn add(to: &mut [u128], more: &[u128]) {
     to.iter_mut().zip(more).for_each(|(to, more)| *to += more);
 }
 
@@ -98,7 +98,6 @@ pub fn shares(wanted: &[[u128; TIERS]], money: u128) -> Vec<u128> {
 #[cfg(test)]
 mod tests {
     use super::*;
-    use crate::generate::random::Random;
 
     fn shared(wanted: &[u128], money: u128) -> Vec<u128> {
         Shared { tier: 0, wanted: wanted.to_vec(), money }.shares()
@@ -174,31 +173,28 @@ mod tests {
     }
 
     /// The words of 02, g, pair by pair: each share is rounded down or a cent more, none is above what
-    /// is wanted, all money is shared, and whoever has no cent has a smaller remainder than each who
-    /// has one, or an equal one and a higher number.
+    /// is wanted, and whoever has no cent has a smaller remainder than each who has one, or an equal one
+    /// and a higher number.
+    fn check(wanted: &[u128], money: u128) {
+        let (shares, total) = (shared(wanted, money), wanted.iter().sum::<u128>());
+        assert_eq!(shares.iter().sum::<u128>(), money);
+        let down = |i: usize| wanted[i] * money / total;
+        let remainder = |i: usize| wanted[i] * money % total;
+        let has_cent = |i: usize| shares[i] == down(i) + 1;
+        for i in 0..wanted.len() {
+            assert!(shares[i] <= wanted[i] && (has_cent(i) || shares[i] == down(i)));
+            for j in (0..wanted.len()).filter(|&j| has_cent(i) && !has_cent(j)) {
+                assert!((remainder(j), i) < (remainder(i), j), "{wanted:?} {money}");
+            }
+        }
+    }
+
+    /// Four participants that want 0 to 6 cents each, and all money that does not meet it.
     #[test]
     fn no_pair_of_participants_is_out_of_order() {
-        let mut random = Random::new(7);
-        for _ in 0..4_000 {
-            let n = random.between(1, 12);
-            let size = random.pick(&[2, 5, 300, 10_000_000_000_000 / n]);
-            let wanted: Vec<u128> = (0..n).map(|_| random.between(0, size).into()).collect();
-            let total: u128 = wanted.iter().sum();
-            if total == 0 {
-                continue;
-            }
-            let money = u128::from(random.below(total as u64));
-            let shares = shared(&wanted, money);
-            assert_eq!(shares.iter().sum::<u128>(), money);
-            let down = |i: usize| wanted[i] * money / total;
-            let remainder = |i: usize| wanted[i] * money % total;
-            let has_cent = |i: usize| shares[i] == down(i) + 1;
-            for i in 0..n as usize {
-                assert!(shares[i] <= wanted[i] && (has_cent(i) || shares[i] == down(i)));
-                for j in (0..n as usize).filter(|&j| has_cent(i) && !has_cent(j)) {
-                    assert!((remainder(j), i) < (remainder(i), j), "{wanted:?} {money}");
-                }
-            }
+        for number in 0..7_u128.pow(4) {
+            let wanted = [1, 7, 49, 343].map(|place| number / place % 7);
+            (0..wanted.iter().sum()).for_each(|money| check(&wanted, money));
         }
     }
 }

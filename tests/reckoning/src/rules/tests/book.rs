@@ -1,17 +1,17 @@
 //! Tests of the book: each refusal, what a refusal leaves, and the payout words.
 
-use crate::programs::calls;
 use crate::rules::book::{Answer, Book};
 use crate::rules::codec::{Entry, MOST_CENTS};
 use crate::rules::limits::{Limits, DEMONSTRATION, MOST_PERIODS};
 use crate::rules::making::{Making, MOST_RESERVE};
+use crate::rules::month_a;
 
 /// A book of three with period 2 settled with arrears of payer 0, 3 after its
 /// notice, and 4 before it; a cent is in the purse of participant 1.
 fn scene() -> Book {
     let mut book = Book::alone(3);
-    let mut entries = calls::month_a_to_settle(2);
-    entries.extend(calls::month_a_to_notice(3));
+    let mut entries = month_a::to_settle(2);
+    entries.extend(month_a::to_notice(3));
     entries.push(Entry::open(4));
     entries.push(Entry::amount(4, 0, 0, 0, MOST_CENTS));
     entries.push(Entry::purse(1, 1));
@@ -171,7 +171,7 @@ fn each_period_limit_is_reported_through_7() {
 fn a_settled_period_with_arrears_counts_for_7() {
     let limits = Limits { periods: 1, ..DEMONSTRATION };
     let mut book = Book::make(&Making::within(limits, 3)).0;
-    for entry in calls::month_a_to_settle(2) {
+    for entry in month_a::to_settle(2) {
         assert_eq!(book.apply(&entry, &mut [9; 3]).number, 0, "{entry:?}");
     }
     assert_eq!(refused(&mut book, Entry::open(3), 3), 7);

@@ -1,13 +1,11 @@
 //! The reckoned examples of 01, those with * and the others, but for the product 30,000, whose cents
 //! 02, b, changed. What month A pays is reckoned afresh by 02, g.
 
-use crate::generate::feeds;
-use crate::programs::calls;
-use crate::programs::listing::listing;
 use crate::rules::book::Book;
 use crate::rules::codec::Entry;
 use crate::rules::making::Making;
 use crate::rules::month::{self, Sums};
+use crate::rules::month_a;
 use crate::rules::retention::retention;
 
 fn month_a() -> Sums {
@@ -122,7 +120,7 @@ fn n_of_64_stands_and_65_is_4() {
 #[test]
 fn receipt_of_600_stands_and_601_is_13() {
     let mut book = Book::alone(3);
-    for entry in calls::month_a_to_notice(7) {
+    for entry in month_a::to_notice(7) {
         assert_eq!(book.apply(&entry, &mut [9; 3]).number, 0);
     }
     assert_eq!(book.apply(&Entry::receipt(7, 0, 601), &mut [9; 3]).number, 13);
@@ -145,32 +143,4 @@ fn a_side_at_its_bound_stands_and_a_cent_more_is_11() {
     assert_eq!(book.apply(&Entry::amount(1, 0, 0, 0, bound), &mut [9; 3]).number, 0);
     assert_eq!(book.apply(&Entry::amount(1, 1, 0, 0, 1), &mut [9; 3]).number, 11);
     assert_eq!(book.apply(&Entry::energy(1, 1, 0, 0, 1), &mut [9; 3]).number, 0);
-}
-
-#[test]
-fn listing_of_month_a() {
-    let text = "entry answer paid held\n1 0 0 0\n2 0 0 0\n3 0 0 0\n4 0 0 0\n5 0 0 0\n6 0 0 0\n7 0 0 0\n\
-                8 0 0 300\n9 0 0 634\n10 0 634 0\npay 1 567\npay 2 67\n11 0 100 0\npay 1 78\npay 2 22\n\
-                12 0 200 0\npay 1 155\npay 2 45\n";
-    assert_eq!(String::from_utf8(listing(&feeds::month_a())).unwrap(), text);
-}
-
-#[test]
-fn listings_that_end_early() {
-    let text = |feed: &[u8]| String::from_utf8(listing(feed)).unwrap();
-    let header = "entry answer paid held\n";
-    let open = Entry::open(7).bytes();
-    assert_eq!(text(&[]), header);
-    assert_eq!(text(&[3]), header);
-    assert_eq!(text(&[3, 1]), format!("{header}1 1 0 0\n"));
-    assert_eq!(text(&[3, 7, 1]), format!("{header}1 1 0 0\n"));
-    assert_eq!(text(&[3, 8, 1]), format!("{header}1 1 0 0\n"));
-    assert_eq!(text(&[3, 9, 1]), format!("{header}1 2 0 0\n"));
-    assert_eq!(text(&[&[3], &open[..], &[0]].concat()), format!("{header}1 0 0 0\n2 2 0 0\n"));
-    assert_eq!(text(&[&[65], &open[..], &open].concat()), format!("{header}1 4 0 0\n2 4 0 0\n"));
-    let bad = Entry::receipt(7, 0, 0).bytes();
-    assert_eq!(text(&[&[3], &bad[..], &open].concat()), format!("{header}1 3 0 0\n"));
-    // The cents held stand in the line of bytes that cannot be read.
-    let held = [&feeds::month_a()[..], &[9]].concat();
-    assert!(text(&held).ends_with("pay 2 45\n13 2 0 0\n"));
 }

@@ -1,13 +1,10 @@
 //! Examples of 02, a, reckoned by hand.
 
-use crate::generate::groupings::{self, Reserves, Shape};
-use crate::generate::months;
-use crate::generate::random::Random;
-use crate::programs::calls;
 use crate::rules::book::Book;
 use crate::rules::codec::Entry;
 use crate::rules::making::{Making, MOST_RESERVE};
 use crate::rules::month::{self, Sums};
+use crate::rules::month_a;
 use crate::rules::retention::retention;
 
 /// A making of these group numbers, with a reserve for each group that is given one.
@@ -121,35 +118,6 @@ fn a_group_without_members_gives_nothing() {
     }
 }
 
-/// What 01 retains, by its own words: p for each participant, itself its own group.
-fn retention_of_01(sums: &Sums) -> Vec<u128> {
-    let n = sums.n();
-    let gift = |p: usize, i: usize| {
-        let s = sums.owing_by(p).saturating_sub(sums.owing_to(p));
-        let g: u128 = (0..n).filter(|&other| other != p).map(|other| sums.tier_5(other)).sum();
-        match (s, g) {
-            (0, _) | (_, 0) => 0,
-            _ if s >= g => sums.tier_5(i),
-            _ => (sums.tier_5(i) * s).div_ceil(g),
-        }
-    };
-    (0..n).map(|i| (0..n).map(|p| gift(p, i)).max().unwrap_or(0)).collect()
-}
-
-#[test]
-fn groups_of_one_give_the_retention_of_01() {
-    let mut random = Random::new(4);
-    for seed in 0..600 {
-        let sums = months::month(seed).sums;
-        let n = sums.n() as u64;
-        let reserves = random.pick(&[Reserves::None, Reserves::Memberless]);
-        let shuffled = groupings::making(&mut random, n, Shape::Shuffled, reserves);
-        let expected = retention_of_01(&sums);
-        assert_eq!(retention(&sums, &Making::alone(n)), expected, "seed {seed}");
-        assert_eq!(retention(&sums, &shuffled), expected, "seed {seed}");
-    }
-}
-
 /// Month A where payers 0 and 2 are related: 800 against the 700 of G that 1 has, so that all is
 /// retained. Payer 0 pays 300 of 600. V is 567 and 133, and the late 300 are 233 and 67.
 #[test]
@@ -160,7 +128,7 @@ fn month_a_with_related_payers() {
         let answer = book.apply(&entry, &mut words).number;
         (answer, words, book.held())
     };
-    for entry in calls::month_a_to_notice(7) {
+    for entry in month_a::to_notice(7) {
         assert_eq!(answer(entry), (0, [0; 3], 0));
     }
     assert_eq!(answer(Entry::receipt(7, 2, 401)).0, 13);

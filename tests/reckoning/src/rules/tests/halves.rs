@@ -1,6 +1,5 @@
 //! Examples of 02, b, reckoned by hand, and its words put over many products.
 
-use crate::generate::random::Random;
 use crate::rules::book::{Book, MOST_TOTAL};
 use crate::rules::codec::{Entry, MOST_PRICE, MOST_QUANTITY};
 use crate::rules::month::energy_cents;
@@ -134,22 +133,6 @@ fn the_words_hold_about_large_halves() {
             }
         }
     }
-}
-
-#[test]
-fn the_words_hold_for_random_products() {
-    let mut random = Random::new(2);
-    let mut halves = 0;
-    for _ in 0..200_000 {
-        let [q, p] = [MOST_QUANTITY, MOST_PRICE].map(|most| {
-            let any = random.between(0, most.into());
-            // Round numbers, as they are common in feeds, are often halves.
-            let round = random.pick(&[1, 1, 16, 100, 625, 10_000]);
-            (any / round * round) as u32
-        });
-        halves += u32::from(check(q, p));
-    }
-    assert!(halves > 1_000, "{halves}");
 }
 
 /// Side 0 has two halves of 34 cents and one of 12. Side 1 has the products of the first two as one,

@@ -1,18 +1,9 @@
-//! rules tests
+//! Examples of 01 and 02, reckoned by hand, and the words of some rules over every small case.
 
-#[cfg(test)]
-pub mod book;
-#[cfg(test)]
-pub mod clause_14_59;
-#[cfg(test)]
-pub mod codec;
-#[cfg(test)]
-pub mod examples;
-#[cfg(test)]
-pub mod groups;
-#[cfg(test)]
-pub mod halves;
-#[cfg(test)]
-pub mod purses;
-#[cfg(test)]
-pub mod washups;
+mod book;
+mod codec;
+mod examples;
+mod groups;
+mod halves;
+mod purses;
+mod washups;

@@ -1,8 +1,0 @@
-//! Links the static library of exports, and anew when it has changed.
-
-fn main() {
-    let folder = concat!(env!("CARGO_MANIFEST_DIR"), "/../target/staticlib");
-    println!("cargo:rustc-link-search=native={folder}");
-    println!("cargo:rustc-link-lib=static=exports");
-    println!("cargo:rerun-if-changed={folder}/libexports.a");
-}

@@ -1,0 +1,72 @@
+//! Lists that a book accepts throughout, in that book and in others whose limits are not below (02, f).
+
+use crate::compare::same_payouts::{self, List};
+use crate::compare::{listings, trials};
+use crate::coverage::{Place, Seen};
+use crate::judge::first_difference;
+use crate::report::{grouped, Part};
+use crate::workers;
+use reckoning::rules::limits::{DEMONSTRATION, MARKET};
+
+/// Judges the trial program on a list: right in each book, and with the same payouts.
+fn judge_trials(path: &str, list: &List) -> Result<(), String> {
+    let (in_its_book, ..) = trials::judge(path, &list.in_its_book())?;
+    same_payouts::accepted(&in_its_book)?;
+    for (of, calls) in list.in_others() {
+        let named = |what| format!("{of}: {what}");
+        let (in_another, ..) = trials::judge(path, &calls).map_err(named)?;
+        same_payouts::same(&in_its_book, &in_another).map_err(named)?;
+    }
+    Ok(())
+}
+
+/// Judges both listing programs on the feed of a list: each right, and alike.
+fn judge_feeds(listing: &str, demonstration: &str, list: &List) -> Result<(), String> {
+    let feed = list.feed();
+    let (large, ..) = listings::judge(MARKET, listing, &feed)?;
+    let (small, ..) = listings::judge(DEMONSTRATION, demonstration, &feed)?;
+    first_difference(&small, &large).map_or(Ok(()), |what| Err(format!("both listings: {what}")))
+}
+
+/// Draws lists from seeds and judges each.
+fn compare(
+    mut part: Part,
+    place: Place,
+    count: u64,
+    list: fn(u64) -> List,
+    judge: impl Fn(&List) -> Result<(), String> + Sync,
+) -> bool {
+    let seeds: Vec<u64> = (0..count).collect();
+    let judged = workers::for_each(&seeds, |&seed| {
+        let list = list(seed);
+        let judged = judge(&list);
+        part.done();
+        (list, judged)
+    });
+    let mut seen = Seen::default();
+    for (seed, (list, judged)) in judged.iter().enumerate() {
+        seen.add(&list.seen);
+        if let Err(what) = judged {
+            part.differs(&format!("list seed {seed}"), &list.in_its_book(), what);
+        }
+    }
+    part.require(place, &seen);
+    part.end(&format!("{} lists", grouped(count)))
+}
+
+/// Puts lists to the trial program, in two other books each; true only if all agree.
+pub fn compare_trials(path: &str, details: bool) -> bool {
+    let part = Part::new("same payouts in trials", details);
+    compare(part, Place::Lists, same_payouts::LISTS, same_payouts::list, |list| {
+        judge_trials(path, list)
+    })
+}
+
+/// Puts feeds that a demonstration book accepts throughout to both listing programs; true only if all
+/// agree.
+pub fn compare_feeds(listing: &str, demonstration: &str, details: bool) -> bool {
+    let part = Part::new("same payouts in listings", details);
+    compare(part, Place::ListedLists, same_payouts::FEEDS, same_payouts::list_of_class, |list| {
+        judge_feeds(listing, demonstration, list)
+    })
+}

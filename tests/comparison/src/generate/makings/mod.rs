@@ -1,0 +1,4 @@
+//! Makings of books, at each bound of their values and random ones.
+
+pub mod groups;
+pub mod limits;

@@ -1,5 +1,0 @@
-//! coverage leftovers
-
-pub mod counts;
-pub mod sights;
-pub mod watch;

@@ -1,4 +1,0 @@
-//! coverage limits
-
-pub mod counts;
-pub mod watch;

@@ -1,4 +1,0 @@
-//! coverage lists
-
-pub mod counts;
-pub mod watch;

@@ -1,4 +1,0 @@
-//! coverage purses
-
-pub mod counts;
-pub mod watch;

@@ -1,5 +1,0 @@
-//! coverage washups
-
-pub mod counts;
-pub mod sights;
-pub mod watch;

@@ -1,4 +1,0 @@
-//! generate makings
-
-pub mod groups;
-pub mod limits;
