@@ -87,6 +87,12 @@ impl Book {
         periods.map(|(&number, _)| number).collect()
     }
 
+    /// Whether a purse would pass its bound with the cents that an entry adds to it.
+    pub fn purse_passes(&self, entry: &Entry) -> bool {
+        let purse = self.purses[usize::from(entry.participant)];
+        purse + u128::from(entry.cents) > MOST_PURSE
+    }
+
     /// Whether an earlier settled period has arrears of this payer.
     pub fn barred(&self, period: u32, payer: usize) -> bool {
         self.periods.range(..period).any(|(_, earlier)| earlier.arrears_of(payer) > 0)
@@ -138,12 +144,10 @@ impl Book {
     }
 
     fn refusal_of_purse(&self, entry: &Entry) -> Option<u8> {
-        let participant = usize::from(entry.participant);
-        if participant >= self.n {
+        if usize::from(entry.participant) >= self.n {
             return Some(NO_PARTICIPANT);
         }
-        let purse = self.purses[participant] + u128::from(entry.cents);
-        (purse > MOST_PURSE).then_some(PURSE_PASSES_BOUND)
+        (self.readings.purse_passes)(self, entry).then_some(PURSE_PASSES_BOUND)
     }
 
     fn refusal_of_other_kinds(&self, entry: &Entry) -> Option<u8> {

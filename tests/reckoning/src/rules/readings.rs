@@ -15,6 +15,8 @@ pub struct Readings {
     pub full: fn(&Book) -> bool,
     /// Whether the earlier period of a washup stands (else 16).
     pub earlier_stands: fn(&Book, &Entry) -> bool,
+    /// Whether money for a purse is 15.
+    pub purse_passes: fn(&Book, &Entry) -> bool,
     /// What an entry adds to its month's sums, if anything, and what 11 tests.
     pub added: fn(&Entry) -> Option<Addition>,
     pub tested: fn(&Entry) -> Option<Addition>,
@@ -35,6 +37,7 @@ pub struct Readings {
 pub const RIGHT: Readings = Readings {
     full: Book::is_full,
     earlier_stands: |_, entry| washup::earlier_stands(entry),
+    purse_passes: Book::purse_passes,
     added,
     tested: added,
     retention: |book, sums| retention(sums, &book.making),

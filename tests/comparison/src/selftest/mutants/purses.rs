@@ -1,11 +1,11 @@
-//! Wrong versions of 02, c: who draws on its purse, how much, and the cents held.
+//! Wrong versions of 02, c: who draws on its purse, how much, the cents held, and the bound of a purse.
 
-use crate::selftest::mutants::{by_s_and_g, reading, retaining, unbalanced, Wrong};
+use crate::selftest::mutants::{by_s_and_g, reading, retaining, unbalanced, wrong, Wrong};
 use reckoning::rules::book::Book;
 use reckoning::rules::making::Making;
 use reckoning::rules::month::{self, Sums};
 use reckoning::rules::period::{Period, Stage};
-use reckoning::rules::purse::Payer;
+use reckoning::rules::purse::{Payer, MOST_PURSE};
 use reckoning::rules::retention::{g_of, is_member, s_of};
 
 /// The right book, but for what a settlement draws.
@@ -33,12 +33,6 @@ fn unpaid_money_bars(book: &Book, number: u32) -> Vec<u128> {
     barring(book, number, |i| older().any(|(_, period)| period.most_receipt(i) > 0))
 }
 
-/// "In an older period": in the last of them.
-fn period_before_bars(book: &Book, number: u32) -> Vec<u128> {
-    let before = book.periods.range(..number).next_back();
-    barring(book, number, |i| before.is_some_and(|(_, before)| before.arrears_of(i) > 0))
-}
-
 /// "The smaller of purse and unpaid": of purse and what step 1 leaves of unpaid after set-off.
 fn up_to_arrears(book: &Book, number: u32) -> Vec<u128> {
     let period = &book.periods[&number];
@@ -64,6 +58,14 @@ fn retention_less_the_purse(book: &Book, sums: &Sums) -> Vec<u128> {
     })
 }
 
+/// "The purse would pass": all purses together would.
+fn bound_of_all_purses(making: &Making) -> (Book, u8) {
+    reading(making, |readings| {
+        readings.purse_passes =
+            |book, entry| book.purses.iter().sum::<u128>() + u128::from(entry.cents) > MOST_PURSE;
+    })
+}
+
 /// "Cents in purses are received and held money".
 fn held_without_purses(making: &Making) -> (Book, u8) {
     reading(making, |readings| {
@@ -78,10 +80,10 @@ pub const WRONG: [Wrong; 10] = [
     unbalanced("barred by arrears in any period", |m| drawing(m, any_arrears_bar)),
     unbalanced("barred by older arrears of anyone", |m| drawing(m, arrears_of_anyone_bar)),
     unbalanced("barred by unpaid money in an older period", |m| drawing(m, unpaid_money_bars)),
-    unbalanced("barred by the period before alone", |m| drawing(m, period_before_bars)),
     unbalanced("drawn up to arrears", |m| drawing(m, up_to_arrears)),
     unbalanced("drawn where the purse covers all", |m| drawing(m, where_it_covers_all)),
     unbalanced("never drawn", |m| drawing(m, |book, _| vec![0; book.n])),
     unbalanced("retention less the purse", |m| retaining(m, retention_less_the_purse)),
     unbalanced("held without the purses", held_without_purses),
+    wrong("15 on all purses together", bound_of_all_purses),
 ];
