@@ -2,6 +2,8 @@
 //! details where they are asked for or the part fails.
 
 use crate::coverage::{Place, Seen};
+use std::env;
+use std::fs;
 use std::io::{self, IsTerminal, Write};
 use std::sync::atomic::{AtomicU64, Ordering};
 use std::time::Instant;
@@ -83,15 +85,20 @@ impl Part {
         }
     }
 
-    /// The same, with the input that shows it, which is kept.
+    /// The same, with the input that shows it, which is kept where the problem is printed.
     pub fn differs(&mut self, name: &str, input: &[u8], what: &str) {
+        let kept = if self.problems < SHOWN { self.keep(name, input) } else { String::new() };
+        self.problem(&format!("{name} differs: {what}{kept}"));
+    }
+
+    /// Keeps an input in a file, and says where.
+    fn keep(&self, name: &str, input: &[u8]) -> String {
         let file = format!("comparison-{}-{name}", self.name).replace([' ', ',', '/'], "-");
-        let path = std::env::temp_dir().join(file);
-        self.problem(&match fs_write(&path, input, self.problems) {
-            Ok(true) => format!("{name} differs: {what}\n  its input: {}", path.display()),
-            Ok(false) => format!("{name} differs: {what}"),
-            Err(error) => format!("{name} differs: {what}\n  its input is not kept: {error}"),
-        });
+        let path = env::temp_dir().join(file);
+        match fs::write(&path, input) {
+            Ok(()) => format!("\n  its input: {}", path.display()),
+            Err(error) => format!("\n  its input is not kept: {error}"),
+        }
     }
 
     /// Takes a judgement; what was judged right, if it was.
@@ -128,14 +135,6 @@ impl Part {
         println!("{}: {came_to}{problems}, {seconds:.1} s", self.name);
         self.problems == 0
     }
-}
-
-/// Keeps an input where fewer problems than are shown came before it.
-fn fs_write(path: &std::path::Path, input: &[u8], problems: u64) -> io::Result<bool> {
-    if problems >= SHOWN {
-        return Ok(false);
-    }
-    std::fs::write(path, input).map(|()| true)
 }
 
 #[cfg(test)]
