@@ -3,7 +3,7 @@
 use crate::cases::{self, feeds as examples};
 use crate::generate::feeds::{self, Kind, KINDS};
 use crate::pairs;
-use crate::trials::{self, TRIALS, TRIALS_OF_ROUNDS};
+use crate::trials;
 use crate::Named;
 use reckoning::rules::limits::{Limits, DEMONSTRATION, MARKET};
 
@@ -42,11 +42,11 @@ fn from_seed(limits: Limits, kind: &'static Kind, seed: u64, of: &str) -> Input 
     })
 }
 
-/// The files of feeds/, which are put to both books, and so are the cases of leftover cents.
-fn for_both_books() -> impl Iterator<Item = Input> {
+/// The files of feeds/, which are put to both books, and the cases for a book of some limits.
+fn by_hand(limits: Limits) -> impl Iterator<Item = Input> {
     let example = |name: &str| examples::example(name).expect("a name that exists");
-    let files = examples::NAMES.map(|name| Input::from((format!("feed {name}"), example(name))));
-    files.into_iter().chain(cases::leftovers::feeds().into_iter().map(Input::from))
+    let files = examples::NAMES.map(|name| (format!("feed {name}"), example(name)));
+    files.into_iter().chain(cases::as_feeds(cases::every(), limits)).map(Input::from)
 }
 
 /// The feeds of the listing.
@@ -55,11 +55,7 @@ pub fn feeds() -> Vec<Input> {
     let cut = cut.map(|(count, feed)| (format!("feed month-a cut after {count}"), feed).into());
     let from_seeds =
         KINDS.iter().flat_map(|kind| (0..kind.feeds).map(|seed| from_seed(MARKET, kind, seed, "")));
-    let halves = cases::halves::cases().into_iter();
-    let halves = halves.map(|case| (format!("feed {}", case.name()), case.feed()).into());
-    let by_hand = trials::purses::every_case().into_iter().chain(trials::washups::every_case());
-    let by_hand = by_hand.map(|case| (format!("feed by hand, {}", case.name), case.feed()).into());
-    cut.chain(from_seeds).chain(halves).chain(by_hand).chain(for_both_books()).collect()
+    cut.chain(from_seeds).chain(by_hand(MARKET)).collect()
 }
 
 /// The feeds of the demonstration: aimed by its own book, and some by the market's, whose n or whose
@@ -73,25 +69,16 @@ pub fn demonstrated_feeds() -> Vec<Input> {
     let of_market = short.flat_map(|kind| {
         (0..OF_MARKET).map(|seed| from_seed(MARKET, kind, seed, "of the market "))
     });
-    let of_limits = cases::limits::feeds().into_iter().map(Input::from);
-    own.chain(of_market).chain(of_limits).chain(for_both_books()).collect()
+    own.chain(of_market).chain(by_hand(DEMONSTRATION)).collect()
 }
 
-/// Every trial: pairs of refusals, those from seeds, and those of each request.
+/// Every trial: pairs of refusals, those of every sort, and those of each request.
 pub fn trials() -> Vec<Input> {
     let empty = Input::from(("trial empty".into(), vec![]));
     let pairs = pairs::pairs().into_iter().enumerate().map(|(place, pair)| {
         let name = format!("trial pair {place} {} {} with {}", pair.of, pair.earlier, pair.later);
         Input::from((name, [&pair.both[..], &pair.alone].concat()))
     });
-    let from_seeds = (0..TRIALS)
-        .map(|seed| Input::new(format!("trial seed {seed}"), move || trials::trial(seed)));
-    let of_rounds = (0..TRIALS_OF_ROUNDS).map(|seed| {
-        Input::new(format!("trial of rounds seed {seed}"), move || trials::trial_of_rounds(seed))
-    });
-    let halves = cases::halves::cases().into_iter();
-    let halves = halves.map(|case| (format!("trial {}", case.name()), case.trial()).into());
-    let of_requests = trials::of_requests().map(Input::from);
-    let all = [empty].into_iter().chain(pairs).chain(from_seeds).chain(of_rounds);
-    all.chain(halves).chain(of_requests).collect()
+    let others = trials::of_every_sort().into_iter().chain(trials::of_requests());
+    [empty].into_iter().chain(pairs).chain(others.map(Input::from)).collect()
 }

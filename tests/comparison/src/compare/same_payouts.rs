@@ -79,15 +79,12 @@ pub fn list(seed: u64) -> List {
 
 /// The same, which a book that is made so accepts throughout.
 pub fn list_by(make: Make, seed: u64) -> List {
-    let mut random = Random::new(seed.wrapping_mul(64).wrapping_add(52));
+    let mut random = Random::of(seed, 52);
     let any = any_limits(&mut random);
     let limits = if seed.is_multiple_of(OF_CLASS) { DEMONSTRATION } else { any };
     let most = limits.participants;
     let n = random.between(most.min(2), most.min(8));
-    let making = match random.chance(3, 4) {
-        true => Making { limits, ..groupings::any_making(&mut random, n) },
-        false => Making::within(limits, n),
-    };
+    let making = groupings::in_groups_or_alone(&mut random, (3, 4), limits, n);
     let participants = random.between(most, MOST_PARTICIPANTS);
     let periods = random.between(limits.periods, MOST_PERIODS);
     draw(make, random, making, Limits { participants, periods })
@@ -95,7 +92,7 @@ pub fn list_by(make: Make, seed: u64) -> List {
 
 /// The list for a seed of a demonstration book, as feeds have it.
 pub fn list_of_class(seed: u64) -> List {
-    let mut random = Random::new(seed.wrapping_mul(64).wrapping_add(51));
+    let mut random = Random::of(seed, 51);
     let n = random.between(2, DEMONSTRATION.participants);
     draw(Book::make, random, Making::within(DEMONSTRATION, n), MARKET)
 }

@@ -1,6 +1,5 @@
 //! What a comparison must have covered.
 
-use crate::cases;
 use crate::compare::listings::{least, Listed};
 use crate::compare::trials::{Tried, LEAST_CALLS};
 use crate::coverage::answers::{ANSWERS, PARTICIPANTS, READ, ROUNDS, WRITTEN};
@@ -24,13 +23,11 @@ fn see_all(seen: &mut Seen, subject: &'static Subject) {
     }
 }
 
-/// The trials of the requests and the cases of halves show all that programs are watched for. Those of
-/// one request alone do not.
+/// The trials of the requests show all that programs are watched for. Those of one request alone do not.
 #[test]
 fn the_trials_of_requests_cover_all_that_trials_must_show() {
     let mut watcher = Watcher::default();
-    let halves = cases::halves::cases().into_iter().map(|case| case.trial());
-    for calls in trials::of_requests().map(|(_, calls)| calls).chain(halves) {
+    for (_, calls) in trials::of_requests() {
         trial::lines(Book::make, &calls, &mut watcher);
     }
     let mut tried = Tried { trials: 1, calls: LEAST_CALLS, seen: watcher.seen };
@@ -41,7 +38,7 @@ fn the_trials_of_requests_cover_all_that_trials_must_show() {
     assert!(tried.end(part()));
     assert!(!Tried { calls: LEAST_CALLS - 1, ..tried }.end(part()));
     let mut of_purses = Watcher::default();
-    for (_, calls) in trials::purses::every_trial() {
+    for (_, calls) in trials::of('c') {
         trial::lines(Book::make, &calls, &mut of_purses);
     }
     assert!(!Tried { trials: 1, calls: LEAST_CALLS, seen: of_purses.seen }.end(part()));

@@ -14,9 +14,15 @@ pub struct Maker {
 }
 
 impl Maker {
-    pub fn new(mut random: Random) -> Maker {
-        let manner = Manner::any(&mut random, 0);
-        Maker { aim: Aim::new(random, &Making::alone(0), manner), bytes: Vec::new() }
+    /// Without a book, for a seed and a sort of trials.
+    pub fn new(seed: u64, sort: u64) -> Maker {
+        Maker::with_book(Random::of(seed, sort), 0)
+    }
+
+    /// Aimed by a book of n participants, which no call has made.
+    pub fn with_book(mut random: Random, n: u64) -> Maker {
+        let manner = Manner::any(&mut random, n);
+        Maker { aim: Aim::new(random, &Making::alone(n), manner), bytes: Vec::new() }
     }
 
     /// Makes a market book, which later calls go to.

@@ -129,7 +129,7 @@ pub fn feed_within(limits: Limits, seed: u64, name: &str) -> Option<Vec<u8>> {
 /// The same, aimed by a book that is made so.
 pub fn feed_by((limits, make): (Limits, Make), seed: u64, name: &str) -> Option<Vec<u8>> {
     let place = KINDS.iter().position(|kind| kind.name == name)?;
-    let mut random = Random::new(seed.wrapping_mul(64).wrapping_add(place as u64));
+    let mut random = Random::of(seed, place as u64);
     if name == "noise" {
         return Some(noise(&mut random));
     }

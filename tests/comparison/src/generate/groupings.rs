@@ -2,7 +2,7 @@
 
 use crate::coverage::group_kinds::{Reserves, Shape, SMALL};
 use crate::generate::random::Random;
-use reckoning::rules::limits::MARKET;
+use reckoning::rules::limits::{Limits, MARKET};
 use reckoning::rules::making::{Making, GROUPS, MOST_RESERVE};
 use std::array;
 
@@ -78,6 +78,19 @@ pub fn making(random: &mut Random, n: u64, shape: Shape, reserves: Reserves) -> 
 pub fn any_making(random: &mut Random, n: u64) -> Making {
     let (shape, reserves) = (random.pick(Shape::ALL), random.pick(Reserves::ALL));
     making(random, n, shape, reserves)
+}
+
+/// A making of some limits: so many of so many in any groups, the others in groups of one.
+pub fn in_groups_or_alone(
+    random: &mut Random,
+    (part, whole): (u64, u64),
+    limits: Limits,
+    n: u64,
+) -> Making {
+    match random.chance(part, whole) {
+        true => Making { limits, ..any_making(random, n) },
+        false => Making::within(limits, n),
+    }
 }
 
 #[cfg(test)]

@@ -130,7 +130,7 @@ pub fn month_of(seed: u64, n: usize) -> Month {
 /// What a book of n participants is made with for a seed; in one of three cases it is groups of one
 /// and no reserves.
 pub fn any_making(seed: u64, n: usize) -> Making {
-    let mut random = Random::new(seed.wrapping_mul(64).wrapping_add(58));
+    let mut random = Random::of(seed, 58);
     match random.chance(1, 3) {
         true => Making::alone(n as u64),
         false => groupings::any_making(&mut random, n as u64),
@@ -140,7 +140,7 @@ pub fn any_making(seed: u64, n: usize) -> Making {
 /// A month for a seed, in a book that is made so.
 pub fn month_in(seed: u64, making: Making) -> Month {
     let n = making.n as usize;
-    let mut random = Random::new(seed.wrapping_mul(64).wrapping_add(62));
+    let mut random = Random::of(seed, 62);
     let of_rounds = n >= 4 && random.chance(1, 5);
     let sums = if of_rounds { rounds::sums(&mut random, n) } else { any_sums(&mut random, n) };
     let notice = month::notice(&sums, &making);

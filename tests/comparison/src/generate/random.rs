@@ -10,6 +10,11 @@ impl Random {
         Random { state: seed }
     }
 
+    /// For a seed of one of 64 sorts of inputs, so that the same seed of two sorts draws differently.
+    pub fn of(seed: u64, sort: u64) -> Random {
+        Random::new(seed.wrapping_mul(64).wrapping_add(sort))
+    }
+
     /// Any 64 bits.
     pub fn any(&mut self) -> u64 {
         self.state = self.state.wrapping_add(0x9E37_79B9_7F4A_7C15);

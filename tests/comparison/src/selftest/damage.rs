@@ -271,10 +271,9 @@ fn damage_trials(told: &mut Told) -> bool {
     let of_groups =
         |seed| (format!("of groups seed {seed}"), trials::groups::trial_of_groups(seed));
     chosen.extend((0..3).map(of_groups));
-    chosen.extend(trials::purses::every_trial().take(3));
-    chosen.extend(trials::washups::every_trial().take(3));
-    chosen.extend(trials::limits::every_trial().take(3));
-    chosen.extend(trials::leftovers::every_trial().take(3));
+    for request in ['c', 'e', 'f', 'g'] {
+        chosen.extend(trials::of(request).into_iter().take(3));
+    }
     chosen.extend(
         pairs::pairs().into_iter().take(6).map(|pair| (format!("pair of {}", pair.of), pair.both)),
     );

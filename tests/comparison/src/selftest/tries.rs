@@ -1,14 +1,14 @@
 //! Tries wrong versions of each request on trials that are made for it; each must be told from the right
 //! one. Those that break the equations of demand 3 must be told by it alone, from the lines of listings.
 
-use crate::cases::{self, Case};
+use crate::cases;
 use crate::compare::same_payouts::{self, LISTS};
 use crate::generate::feeds;
 use crate::judge::{demand3, first_difference};
 use crate::pairs;
 use crate::selftest::mutants::{Wrong, BY_REQUEST};
 use crate::selftest::Told;
-use crate::trials::{self, TRIALS, TRIALS_OF_ROUNDS};
+use crate::trials;
 use crate::workers;
 use crate::Named;
 use reckoning::programs::{listing, trial};
@@ -24,11 +24,6 @@ fn by_how_many(told: Vec<String>, of: usize, what: &str) -> Option<String> {
     told.first().map(|first| format!("by {} of {of} {what}; {first}", told.len()))
 }
 
-/// The trials from seeds, which versions of each request but the first and of limits are tried on.
-fn from_seeds() -> impl Iterator<Item = Named> {
-    (0..TRIALS).map(|seed| (format!("trial seed {seed}"), trials::trial(seed)))
-}
-
 /// The pairs of refusals of some sorts, as trials.
 fn pairs_of(sorts: &'static [&'static str]) -> impl Iterator<Item = Named> {
     let pairs = pairs::pairs().into_iter().filter(|pair| sorts.contains(&pair.of));
@@ -38,61 +33,40 @@ fn pairs_of(sorts: &'static [&'static str]) -> impl Iterator<Item = Named> {
     })
 }
 
-/// The trials that wrong versions of a request are tried on.
-fn trials_for(letter: char) -> Vec<Named> {
-    match letter {
-        'a' => trials::groups::every_trial().collect(),
-        'b' => {
-            let cases = cases::halves::cases().into_iter();
-            let cases = cases.map(|case| (format!("trial {}", case.name()), case.trial()));
-            cases.chain(from_seeds()).collect()
-        }
-        'c' => trials::purses::every_trial().chain(from_seeds()).collect(),
-        'e' => {
-            let pairs = pairs_of(&["washup"]);
-            trials::washups::every_trial().chain(pairs).chain(from_seeds()).collect()
-        }
-        'f' => {
-            let pairs = pairs_of(&["making of limits", "open at a limit"]);
-            trials::limits::every_trial().chain(pairs).collect()
-        }
-        'g' => {
-            let of_rounds = (0..TRIALS_OF_ROUNDS).map(|seed| {
-                (format!("trial of rounds seed {seed}"), trials::trial_of_rounds(seed))
-            });
-            trials::leftovers::every_trial().chain(of_rounds).chain(from_seeds()).collect()
-        }
-        letter => panic!("no wrong version of {letter}"),
+/// The trials that wrong versions of a request are tried on. Those of every sort make books neither in
+/// groups nor of limits.
+fn trials_for(request: char) -> Vec<Named> {
+    let mut all = trials::of(request);
+    match request {
+        'e' => all.extend(pairs_of(&["washup"])),
+        'f' => all.extend(pairs_of(&["making of limits", "open at a limit"])),
+        _ => (),
     }
-}
-
-/// The cases of a request as feeds.
-fn as_feeds(cases: Vec<Case>) -> impl Iterator<Item = Named> {
-    cases.into_iter().map(|case| (format!("feed of {}", case.name), case.feed()))
+    if !['a', 'f'].contains(&request) {
+        all.extend(trials::of_every_sort());
+    }
+    all
 }
 
 /// Feeds from seeds, aimed by the wrong version, whose sides come to be equal so that its months settle.
-fn aimed(wrong: &Wrong, limits: Limits, kind: &'static str, count: u64) -> Vec<Named> {
+fn aimed(wrong: &Wrong, limits: Limits, kind: &str, count: u64) -> Vec<Named> {
     let feed = |seed| feeds::feed_by((limits, wrong.make), seed, kind).expect("a kind that exists");
     (0..count).map(|seed| (format!("feed {kind} seed {seed}"), feed(seed))).collect()
 }
 
 /// The feeds that demand 3 is put over as a wrong version of a request lists them, and the limits of the
 /// books that list them.
-fn feeds_for(letter: char, wrong: &Wrong) -> (Limits, Vec<Named>) {
-    let of_kind = |kind| aimed(wrong, MARKET, kind, FEEDS);
-    let feeds: Vec<Named> = match letter {
-        'c' => as_feeds(trials::purses::every_case()).chain(of_kind("purses")).collect(),
-        'e' => as_feeds(trials::washups::every_case()).chain(of_kind("washups")).collect(),
-        'f' => {
-            let full = aimed(wrong, DEMONSTRATION, "full", FEEDS);
-            let refused_n = aimed(wrong, DEMONSTRATION, "refused-n", FEEDS_OF_REFUSED_N);
-            cases::limits::feeds().into_iter().chain(full).chain(refused_n).collect()
-        }
-        'g' => cases::leftovers::feeds().into_iter().chain(of_kind("leftovers")).collect(),
-        letter => panic!("no wrong version of {letter} breaks demand 3"),
+fn feeds_for(request: char, wrong: &Wrong) -> (Limits, Vec<Named>) {
+    let (limits, kinds): (Limits, &[(&str, u64)]) = match request {
+        'c' => (MARKET, &[("purses", FEEDS)]),
+        'e' => (MARKET, &[("washups", FEEDS)]),
+        'f' => (DEMONSTRATION, &[("full", FEEDS), ("refused-n", FEEDS_OF_REFUSED_N)]),
+        'g' => (MARKET, &[("leftovers", FEEDS)]),
+        request => panic!("no wrong version of {request} breaks demand 3"),
     };
-    (if letter == 'f' { DEMONSTRATION } else { MARKET }, feeds)
+    let by_hand = cases::as_feeds(cases::of(request).into_iter(), limits);
+    let aimed = kinds.iter().flat_map(|&(kind, count)| aimed(wrong, limits, kind, count));
+    (limits, by_hand.chain(aimed).collect())
 }
 
 /// Every wrong version that fits, with the letter of its request.

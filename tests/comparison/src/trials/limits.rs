@@ -1,23 +1,16 @@
-//! Trials of books of any limits (02, f): the cases by hand, makings, books of each period limit that
-//! are opened to it and beyond, and whole months in books of random limits.
+//! Trials of books of any limits (02, f): books of each period limit that are opened to it and beyond,
+//! and whole months in books of random limits.
 
-use crate::cases::limits as cases_of_limits;
 use crate::generate::call_maker::Maker;
 use crate::generate::groupings;
 use crate::generate::makings::groups as makings;
-use crate::generate::makings::limits::{self as makings_of_limits, any_limits, any_n, any_refused};
-use crate::generate::random::Random;
-use crate::trials::{any_apply, end};
-use crate::Named;
+use crate::generate::makings::limits::{any_limits, any_n, any_refused};
 use reckoning::programs::calls;
 use reckoning::rules::codec::Entry;
 use reckoning::rules::limits::{Limits, DEMONSTRATION, MARKET, MOST_PARTICIPANTS, MOST_PERIODS};
 use reckoning::rules::making::Making;
 use reckoning::rules::period::Stage;
 
-/// Each period limit three times.
-pub const TRIALS_OF_OPENINGS: u64 = 3 * MOST_PERIODS;
-pub const TRIALS_OF_LIMITS: u64 = 60;
 /// How often a book is opened to its limit, and how many books a trial of months makes.
 const TURNS: u64 = 2;
 const BOOKS: u64 = 3;
@@ -72,13 +65,6 @@ impl Maker {
         self.open_beyond();
     }
 
-    fn any_entries(&mut self, most: u64) {
-        for _ in 0..self.aim.random.between(0, most) {
-            let call = any_apply(&mut self.aim);
-            self.bytes.extend(call);
-        }
-    }
-
     /// Refused makings, and some entries to each.
     fn refused_makings(&mut self, right: &Making) {
         let random = &mut self.aim.random;
@@ -86,7 +72,7 @@ impl Maker {
         let by_others = makings::any_refused(random, right);
         for refused in by_limits.into_iter().chain([by_others]) {
             self.make_limited(&refused);
-            self.any_entries(6);
+            self.any_entries(0, 6);
         }
     }
 
@@ -105,23 +91,15 @@ impl Maker {
     }
 }
 
-/// A making of any groups and reserves.
-fn any_making(random: &mut Random, limits: Limits, n: u64) -> Making {
-    match random.chance(1, 2) {
-        true => Making { limits, ..groupings::any_making(random, n) },
-        false => Making::within(limits, n),
-    }
-}
-
 /// The trial for a seed of a book that is opened to its limit and beyond. Seeds take period limits in
 /// turn.
 pub fn trial_of_openings(seed: u64) -> Vec<u8> {
-    let mut maker = Maker::new(Random::new(seed.wrapping_mul(64).wrapping_add(54)));
+    let mut maker = Maker::new(seed, 54);
     let random = &mut maker.aim.random;
     let n = random.pick(&[1, 2, 3, 4, 6]);
     let participants = random.between(n, MOST_PARTICIPANTS);
     let limits = Limits { participants, periods: seed % MOST_PERIODS + 1 };
-    let making = any_making(random, limits, n);
+    let making = groupings::in_groups_or_alone(random, (1, 2), limits, n);
     maker.make_limited(&making);
     for _ in 0..TURNS {
         maker.openings();
@@ -131,42 +109,18 @@ pub fn trial_of_openings(seed: u64) -> Vec<u8> {
 
 /// The trial for a seed of whole months in books of random limits, with refused makings between.
 pub fn trial_of_limits(seed: u64) -> Vec<u8> {
-    let mut maker = Maker::new(Random::new(seed.wrapping_mul(64).wrapping_add(53)));
+    let mut maker = Maker::new(seed, 53);
     for turn in 0..BOOKS {
-        let limits = any_limits(&mut maker.aim.random);
-        let n = any_n(&mut maker.aim.random, limits);
-        let making = any_making(&mut maker.aim.random, limits, n);
+        let random = &mut maker.aim.random;
+        let limits = any_limits(random);
+        let n = any_n(random, limits);
+        let making = groupings::in_groups_or_alone(random, (1, 2), limits, n);
         maker.make_limited(&making);
         maker.month();
         maker.month();
-        maker.any_entries(60);
+        maker.any_entries(0, 60);
         maker.another_book(n, seed + turn);
         maker.refused_makings(&making);
     }
-    end_in_limits(&mut maker);
-    maker.bytes
-}
-
-/// Ends a trial as others end, or within a call that makes a book of limits.
-fn end_in_limits(maker: &mut Maker) {
-    let random = &mut maker.aim.random;
-    if random.chance(1, 2) {
-        return end(&mut maker.bytes, random);
-    }
-    let call = calls::book_of_limits(&Making::within(DEMONSTRATION, 3));
-    let length = random.between(1, call.len() as u64 - 1) as usize;
-    maker.bytes.extend(&call[..length]);
-}
-
-/// Every trial of limits.
-pub fn every_trial() -> impl Iterator<Item = Named> {
-    let cases = cases_of_limits::trials().into_iter();
-    let makings = makings_of_limits::cases().into_iter().map(|case| {
-        (format!("trial of limits, making {}", case.name), makings_of_limits::trial(&case))
-    });
-    let openings = (0..TRIALS_OF_OPENINGS)
-        .map(|seed| (format!("trial of openings seed {seed}"), trial_of_openings(seed)));
-    let months = (0..TRIALS_OF_LIMITS)
-        .map(|seed| (format!("trial of limits seed {seed}"), trial_of_limits(seed)));
-    cases.chain(makings).chain(openings).chain(months)
+    maker.ended_within(&calls::book_of_limits(&Making::within(DEMONSTRATION, 3)))
 }

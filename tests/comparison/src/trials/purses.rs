@@ -1,19 +1,9 @@
-//! Trials of purses (02, c): the cases by hand, and periods that are open at once and settled in
-//! any order, with money for purses at every stage.
+//! Trials of purses (02, c): periods that are open at once and settled in any order, with money for
+//! purses at every stage.
 
-use crate::cases::feeds as example_feeds;
-use crate::cases::older_arrears as cases_of_older_arrears;
-use crate::cases::purses as cases_of_purses;
-use crate::cases::Case;
 use crate::generate::call_maker::Maker;
-use crate::generate::groupings;
-use crate::generate::random::Random;
-use crate::trials::{any_apply, end};
-use crate::Named;
 use reckoning::rules::codec::Entry;
-use reckoning::rules::making::Making;
 
-pub const TRIALS_OF_PURSES: u64 = 60;
 /// How many books a trial makes, and how often periods are opened in each.
 const BOOKS: u64 = 2;
 const TURNS: u64 = 3;
@@ -61,39 +51,13 @@ impl Maker {
 
 /// The trial for a seed, in books of groups of one and in groups.
 pub fn trial_of_purses(seed: u64) -> Vec<u8> {
-    let mut maker = Maker::new(Random::new(seed.wrapping_mul(64).wrapping_add(56)));
+    let mut maker = Maker::new(seed, 56);
     for _ in 0..BOOKS {
-        let n = maker.aim.random.pick(&EVERY_N);
-        let making = match maker.aim.random.chance(1, 2) {
-            true => groupings::any_making(&mut maker.aim.random, n),
-            false => Making::alone(n),
-        };
-        maker.make(&making);
+        maker.market_book(&EVERY_N, (1, 2));
         for _ in 0..TURNS {
             maker.periods_at_once();
-            for _ in 0..maker.aim.random.between(0, 20) {
-                let call = any_apply(&mut maker.aim);
-                maker.bytes.extend(call);
-            }
+            maker.any_entries(0, 20);
         }
     }
-    end(&mut maker.bytes, &mut maker.aim.random);
-    maker.bytes
-}
-
-/// Every case of purses by hand.
-pub fn every_case() -> Vec<Case> {
-    let mut cases = cases_of_purses::cases();
-    cases.extend(cases_of_older_arrears::cases());
-    cases.push(example_feeds::purse());
-    cases
-}
-
-/// Every trial of purses.
-pub fn every_trial() -> impl Iterator<Item = Named> {
-    let cases = every_case().into_iter();
-    let cases = cases.map(|case| (format!("trial of purses, {}", case.name), case.trial()));
-    let seeds = (0..TRIALS_OF_PURSES)
-        .map(|seed| (format!("trial of purses seed {seed}"), trial_of_purses(seed)));
-    cases.chain(seeds)
+    maker.ended()
 }

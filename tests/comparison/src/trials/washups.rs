@@ -1,19 +1,9 @@
-//! Trials of washups (02, e): the cases by hand, and months with washups about the bounds of both
-//! sides, of small period numbers and of the last ones.
+//! Trials of washups (02, e): months with washups about the bounds of both sides, of small period
+//! numbers and of the last ones.
 
-use crate::cases::feeds as example_feeds;
-use crate::cases::full_sides as cases_of_full_sides;
-use crate::cases::washups as cases_of_washups;
-use crate::cases::Case;
 use crate::generate::call_maker::Maker;
-use crate::generate::groupings;
-use crate::generate::random::Random;
-use crate::trials::{any_apply, end};
-use crate::Named;
 use reckoning::rules::codec::Entry;
-use reckoning::rules::making::Making;
 
-pub const TRIALS_OF_WASHUPS: u64 = 60;
 /// How many books a trial makes, and how many months each has at most.
 const BOOKS: u64 = 2;
 const MONTHS: u64 = 5;
@@ -60,14 +50,9 @@ impl Maker {
 
 /// The trial for a seed, in books of groups of one and in groups.
 pub fn trial_of_washups(seed: u64) -> Vec<u8> {
-    let mut maker = Maker::new(Random::new(seed.wrapping_mul(64).wrapping_add(55)));
+    let mut maker = Maker::new(seed, 55);
     for _ in 0..BOOKS {
-        let n = maker.aim.random.pick(&EVERY_N);
-        let making = match maker.aim.random.chance(1, 2) {
-            true => groupings::any_making(&mut maker.aim.random, n),
-            false => Making::alone(n),
-        };
-        maker.make(&making);
+        maker.market_book(&EVERY_N, (1, 2));
         maker.aim.manner.washups = 30;
         maker.open_first();
         for _ in 0..MONTHS {
@@ -76,28 +61,7 @@ pub fn trial_of_washups(seed: u64) -> Vec<u8> {
                 maker.month_of_washups(number);
             }
         }
-        for _ in 0..maker.aim.random.between(0, 20) {
-            let call = any_apply(&mut maker.aim);
-            maker.bytes.extend(call);
-        }
+        maker.any_entries(0, 20);
     }
-    end(&mut maker.bytes, &mut maker.aim.random);
-    maker.bytes
-}
-
-/// Every case of washups by hand.
-pub fn every_case() -> Vec<Case> {
-    let mut cases = cases_of_washups::cases();
-    cases.extend(cases_of_full_sides::cases());
-    cases.push(example_feeds::washup());
-    cases
-}
-
-/// Every trial of washups.
-pub fn every_trial() -> impl Iterator<Item = Named> {
-    let cases = every_case().into_iter();
-    let cases = cases.map(|case| (format!("trial of washups, {}", case.name), case.trial()));
-    let seeds = (0..TRIALS_OF_WASHUPS)
-        .map(|seed| (format!("trial of washups seed {seed}"), trial_of_washups(seed)));
-    cases.chain(seeds)
+    maker.ended()
 }
