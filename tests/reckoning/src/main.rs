@@ -1,4 +1,5 @@
-//! Prints what 01's programs print, by the reckoning; without a right word it prints its uses.
+//! Prints what the listing, the demonstration and the trial program print, by the reckoning; without a right
+//! word it prints its uses.
 
 use reckoning::programs::{listing, trial};
 use reckoning::rules::limits::{DEMONSTRATION, MARKET};

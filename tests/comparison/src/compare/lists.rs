@@ -8,24 +8,31 @@ use crate::report::{grouped, Part};
 use crate::workers;
 use reckoning::rules::limits::{DEMONSTRATION, MARKET};
 
+/// How a program differs, and the input that shows it.
+type Different = (Vec<u8>, String);
+
 /// Judges the trial program on a list: right in each book, and with the same payouts.
-fn judge_trials(path: &str, list: &List) -> Result<(), String> {
-    let (in_its_book, ..) = trials::judge(path, &list.in_its_book())?;
-    same_payouts::accepted(&in_its_book)?;
+fn judge_trials(path: &str, list: &List) -> Result<(), Different> {
+    let calls = list.in_its_book();
+    let of_its_book = |what| (calls.clone(), what);
+    let (in_its_book, ..) = trials::judge(path, &calls).map_err(of_its_book)?;
+    same_payouts::accepted(&in_its_book).map_err(of_its_book)?;
     for (of, calls) in list.in_others() {
-        let named = |what| format!("{of}: {what}");
-        let (in_another, ..) = trials::judge(path, &calls).map_err(named)?;
-        same_payouts::same(&in_its_book, &in_another).map_err(named)?;
+        let of_another = |what| (calls.clone(), format!("{of}: {what}"));
+        let (in_another, ..) = trials::judge(path, &calls).map_err(of_another)?;
+        same_payouts::same(&in_its_book, &in_another).map_err(of_another)?;
     }
     Ok(())
 }
 
 /// Judges both listing programs on the feed of a list: each right, and alike.
-fn judge_feeds(listing: &str, demonstration: &str, list: &List) -> Result<(), String> {
+fn judge_feeds(listing: &str, demonstration: &str, list: &List) -> Result<(), Different> {
     let feed = list.feed();
-    let (large, ..) = listings::judge(MARKET, listing, &feed)?;
-    let (small, ..) = listings::judge(DEMONSTRATION, demonstration, &feed)?;
-    first_difference(&small, &large).map_or(Ok(()), |what| Err(format!("both listings: {what}")))
+    let differs = |what| (feed.clone(), what);
+    let (large, ..) = listings::judge(MARKET, listing, &feed).map_err(differs)?;
+    let (small, ..) = listings::judge(DEMONSTRATION, demonstration, &feed).map_err(differs)?;
+    let difference = first_difference(&small, &large);
+    difference.map_or(Ok(()), |what| Err(differs(format!("both listings: {what}"))))
 }
 
 /// Draws lists from seeds and judges each.
@@ -34,20 +41,20 @@ fn compare(
     place: Place,
     count: u64,
     list: fn(u64) -> List,
-    judge: impl Fn(&List) -> Result<(), String> + Sync,
+    judge: impl Fn(&List) -> Result<(), Different> + Sync,
 ) -> bool {
     let seeds: Vec<u64> = (0..count).collect();
     let judged = workers::for_each(&seeds, |&seed| {
         let list = list(seed);
         let judged = judge(&list);
         part.done();
-        (list, judged)
+        (list.seen, judged)
     });
     let mut seen = Seen::default();
-    for (seed, (list, judged)) in judged.iter().enumerate() {
-        seen.add(&list.seen);
-        if let Err(what) = judged {
-            part.differs(&format!("list seed {seed}"), &list.in_its_book(), what);
+    for (seed, (of_list, judged)) in judged.iter().enumerate() {
+        seen.add(of_list);
+        if let Err((input, what)) = judged {
+            part.differs(&format!("list seed {seed}"), input, what);
         }
     }
     part.require(place, &seen);

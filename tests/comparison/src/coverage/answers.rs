@@ -53,7 +53,7 @@ pub static READ: Subject =
 pub static WRITTEN: Subject =
     Subject { name: "entries written by kind", rows: KINDS, columns: ALONE, needed: kind_needed };
 
-/// Settlements by rounds; at most n run.
+/// Apply calls by the rounds that they ran; only settlements run some.
 pub static ROUNDS: Subject = Subject {
     name: "apply calls by rounds",
     rows: Rows::Numbered(MOST_PARTICIPANTS as usize + 1),

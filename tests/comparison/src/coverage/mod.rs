@@ -1,6 +1,6 @@
 //! What was seen of each request. A comparison fails where it never saw what its place must show.
 //!
-//! A request adds one file, which names its sights and watches for them, and one line in `REGISTERED`.
+//! A request adds one file, which names its sights and watches for them, and a line in `REGISTERED`.
 
 #[macro_use]
 mod sights;
@@ -43,7 +43,7 @@ pub struct Request {
 }
 
 /// A line for each file.
-static REGISTERED: [&Request; 8] = [
+static REGISTERED: &[&Request] = &[
     &answers::REQUEST,
     &groups::REQUEST,
     &halves::REQUEST,
@@ -55,7 +55,7 @@ static REGISTERED: [&Request; 8] = [
 ];
 
 /// Every subject, in the order of the requests.
-fn subjects() -> impl Iterator<Item = &'static Subject> {
+pub fn subjects() -> impl Iterator<Item = &'static Subject> {
     REGISTERED.iter().flat_map(|request| request.subjects.iter().copied())
 }
 
@@ -141,8 +141,54 @@ mod tests {
                 assert_eq!(missed.len(), expected, "{place:?}: {missed:?}");
             }
         }
+    }
+
+    /// How many sights each place must show. A request that adds sights changes these numbers, and
+    /// nothing else may.
+    #[test]
+    fn each_place_must_show_so_many_sights() {
+        let needed = PLACES.map(|place| Seen::default().missing(place).len());
+        assert_eq!(needed, [274, 162, 163, 107, 106, 52, 13, 10]);
         assert!(PLACES.iter().all(|&place| all_but(None).missing(place).is_empty()));
-        assert!(PLACES.iter().all(|&place| !Seen::default().missing(place).is_empty()));
+    }
+
+    /// Some that are easily lost: at a bound, by a side, by one period limit alone.
+    #[test]
+    fn sights_at_bounds_are_needed() {
+        let missing = |place: Place, what: &str| {
+            Seen::default().missing(place).iter().any(|missing| missing == what)
+        };
+        let listings = Place::Listings(DEMONSTRATION);
+        for (place, what, is_needed) in [
+            (Place::Trials, "answers: 5", true),
+            (listings, "answers: 5", false),
+            (listings, "answers: 16", true),
+            (listings, "feeds by n: 9", true),
+            (listings, "purses: refused with 15 for one cent", true),
+            (listings, "openings by period limit: refused with 7 3", true),
+            (listings, "openings by period limit: refused with 7 12", false),
+            (Place::Trials, "openings by period limit: refused with 7 12", true),
+            (Place::Soak(64), "answers: 12", false),
+            (Place::Soak(5), "answers: 12", true),
+            (Place::Soak(5), "exact halves: went up side 1", true),
+            (Place::Months, "shared tiers: in tier 1 by late receipts", true),
+            (Place::Lists, "lists with the same payouts: late receipts that pay", true),
+            (Place::ListedLists, "lists with the same payouts: late receipts that pay", true),
+        ] {
+            assert_eq!(missing(place, what), is_needed, "{place:?}: {what}");
+        }
+    }
+
+    #[test]
+    #[should_panic(expected = "is not registered")]
+    fn a_subject_that_is_not_registered_cannot_be_counted() {
+        static UNKNOWN: Subject = Subject {
+            name: "unknown",
+            rows: Rows::Numbered(1),
+            columns: &[""],
+            needed: |_, _, _| true,
+        };
+        Seen::default().count(&UNKNOWN, 0, 0, 1);
     }
 
     #[test]

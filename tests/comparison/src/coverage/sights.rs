@@ -93,7 +93,11 @@ impl Seen {
     pub fn count(&mut self, subject: &'static Subject, row: usize, column: usize, times: u64) {
         let columns = subject.columns.len();
         assert!(row < subject.rows.count() && column < columns, "{}: {row} {column}", subject.name);
-        let empty = || vec![0; subject.rows.count() * columns];
+        let empty = || {
+            let registered = subjects().any(|other| std::ptr::eq(other, subject));
+            assert!(registered, "{} is not registered", subject.name);
+            vec![0; subject.rows.count() * columns]
+        };
         self.tables.entry(subject.name).or_insert_with(empty)[row * columns + column] += times;
     }
 

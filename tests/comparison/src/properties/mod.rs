@@ -4,4 +4,5 @@ mod clause_14_59;
 mod codec;
 mod groups;
 mod purses;
+mod sharing;
 mod washups;

@@ -31,7 +31,8 @@ impl Told {
         self.part.done();
     }
 
-    fn end(self) -> bool {
+    fn end(mut self) -> bool {
+        self.part.require_that(self.tried > 0, "nothing was tried");
         let (told, tried) = (grouped(self.told), grouped(self.tried));
         self.part.end(&format!("{told} of {tried} told"))
     }

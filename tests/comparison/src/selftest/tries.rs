@@ -62,7 +62,7 @@ fn feeds_for(request: char, wrong: &Wrong) -> (Limits, Vec<Named>) {
         'e' => (MARKET, &[("washups", FEEDS)]),
         'f' => (DEMONSTRATION, &[("full", FEEDS), ("refused-n", FEEDS_OF_REFUSED_N)]),
         'g' => (MARKET, &[("leftovers", FEEDS)]),
-        request => panic!("no wrong version of {request} breaks demand 3"),
+        request => panic!("no wrong version of {request} is put to demand 3"),
     };
     let by_hand = cases::as_feeds(cases::of(request).into_iter(), limits);
     let aimed = kinds.iter().flat_map(|&(kind, count)| aimed(wrong, limits, kind, count));

@@ -173,7 +173,8 @@ impl Book {
                 let above = u128::from(entry.cents) > period.most_receipt(participant);
                 above.then_some(RECEIPT_ABOVE)
             }
-            _ => None,
+            SETTLE => None,
+            kind => panic!("kind {kind} is of no period"),
         }
     }
 
@@ -224,7 +225,8 @@ impl Book {
             }
             RECEIPT => (period.receive(participant, entry.cents.into(), self.readings.late), 0),
             SETTLE => period.settle((self.readings.revised, self.readings.rounds)),
-            _ => nothing,
+            NOTICE => nothing,
+            kind => panic!("kind {kind} is of no period"),
         };
         if period.settled_without_arrears() {
             self.periods.remove(&entry.period);

@@ -1,4 +1,4 @@
-//! The rules alone, written from 01 and 02. Nothing here knows of the programs, or of a test.
+//! The rules alone, written from 01 and 02. Nothing here imports the programs or the comparison.
 
 pub mod addition;
 pub mod book;

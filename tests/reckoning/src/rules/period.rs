@@ -106,11 +106,11 @@ impl Period {
 
     /// Settles, and gives what is paid to each participant and the rounds run, where the tier that is
     /// not met is shared so, and the rounds run so.
-    pub fn settle(&mut self, ways: (Shares, Rounds)) -> (Vec<u128>, u64) {
+    pub fn settle(&mut self, by: (Shares, Rounds)) -> (Vec<u128>, u64) {
         let Stage::Noticed(notice) = &self.stage else {
             panic!("settled at a wrong stage");
         };
-        let settlement = month::settle_by(&self.sums, notice, &self.received, ways);
+        let settlement = month::settle_by(&self.sums, notice, &self.received, by);
         let (claim, arrears) = (settlement.step_one.claim, settlement.step_one.arrears);
         self.stage = Stage::Settled { claim, arrears };
         self.paid.clone_from(&settlement.paid);

@@ -171,30 +171,4 @@ mod tests {
         assert_eq!(shares(&wanted, 5), [2, 0, 3]);
         assert_eq!(shares(&wanted, 36), [16, 13, 7]);
     }
-
-    /// The words of 02, g, pair by pair: each share is rounded down or a cent more, none is above what
-    /// is wanted, and whoever has no cent has a smaller remainder than each who has one, or an equal one
-    /// and a higher number.
-    fn check(wanted: &[u128], money: u128) {
-        let (shares, total) = (shared(wanted, money), wanted.iter().sum::<u128>());
-        assert_eq!(shares.iter().sum::<u128>(), money);
-        let down = |i: usize| wanted[i] * money / total;
-        let remainder = |i: usize| wanted[i] * money % total;
-        let has_cent = |i: usize| shares[i] == down(i) + 1;
-        for i in 0..wanted.len() {
-            assert!(shares[i] <= wanted[i] && (has_cent(i) || shares[i] == down(i)));
-            for j in (0..wanted.len()).filter(|&j| has_cent(i) && !has_cent(j)) {
-                assert!((remainder(j), i) < (remainder(i), j), "{wanted:?} {money}");
-            }
-        }
-    }
-
-    /// Four participants that want 0 to 6 cents each, and all money that does not meet it.
-    #[test]
-    fn no_pair_of_participants_is_out_of_order() {
-        for number in 0..7_u128.pow(4) {
-            let wanted = [1, 7, 49, 343].map(|place| number / place % 7);
-            (0..wanted.iter().sum()).for_each(|money| check(&wanted, money));
-        }
-    }
 }

@@ -1,5 +1,5 @@
 //! Wrong versions of the rules, by which the selftest shows that the tests can fail. Each misreads
-//! a sentence of 02; where its name does not say which, a comment quotes the words. In the lists of
+//! a sentence of 02, or of 01 where 02 touches it; where its name does not say which, a comment quotes the words. In the lists of
 //! versions `m` is the making.
 
 pub mod groups;
