@@ -7,7 +7,7 @@ use crate::coverage::{Place, Seen, Watcher};
 use crate::judge::demand3::Count;
 use crate::judge::judge_listing;
 use crate::report::{grouped, Part};
-use crate::workers;
+use crate::workers::judge_each;
 use reckoning::rules::limits::{Limits, MARKET};
 
 /// The least feeds and settled months that the program of a book must have listed.
@@ -66,17 +66,14 @@ pub fn judge(limits: Limits, path: &str, feed: &[u8]) -> Result<(Vec<u8>, Count,
 /// was compared.
 pub fn compare(name: &str, limits: Limits, path: &str, feeds: Vec<Input>, details: bool) -> bool {
     let (mut part, mut listed) = (Part::new(name, details), Listed::default());
-    let judged = workers::for_each(&feeds, |input| {
+    let judge = |input: &Input| {
         let feed = input.bytes();
-        let judged = judge(limits, path, &feed).map(|(_, count, seen)| (count, seen));
-        part.done();
-        (feed.first().copied(), judged)
-    });
-    for (input, (n, judged)) in feeds.iter().zip(judged) {
-        match judged {
-            Ok((count, seen)) => listed.take(n, &count, &seen),
-            Err(what) => part.differs(&input.name, &input.bytes(), &what),
-        }
+        let (_, count, seen) = judge(limits, path, &feed)?;
+        Ok((feed.first().copied(), count, seen))
+    };
+    let take = |(n, count, seen)| listed.take(n, &count, &seen);
+    for (input, what) in judge_each(&part, &feeds, judge, take) {
+        part.differs(&input.name, &input.bytes(), &what);
     }
     listed.end(part, limits)
 }

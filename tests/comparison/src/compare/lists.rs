@@ -5,7 +5,7 @@ use crate::compare::{listings, trials};
 use crate::coverage::{Place, Seen};
 use crate::judge::first_difference;
 use crate::report::{grouped, Part};
-use crate::workers;
+use crate::workers::judge_each;
 use reckoning::rules::limits::{DEMONSTRATION, MARKET};
 
 /// How a program differs, and the input that shows it.
@@ -43,19 +43,13 @@ fn compare(
     list: fn(u64) -> List,
     judge: impl Fn(&List) -> Result<(), Different> + Sync,
 ) -> bool {
-    let seeds: Vec<u64> = (0..count).collect();
-    let judged = workers::for_each(&seeds, |&seed| {
+    let (seeds, mut seen): (Vec<u64>, _) = ((0..count).collect(), Seen::default());
+    let judge = |&seed: &u64| {
         let list = list(seed);
-        let judged = judge(&list);
-        part.done();
-        (list.seen, judged)
-    });
-    let mut seen = Seen::default();
-    for (seed, (of_list, judged)) in judged.iter().enumerate() {
-        seen.add(of_list);
-        if let Err((input, what)) = judged {
-            part.differs(&format!("list seed {seed}"), input, what);
-        }
+        judge(&list).map(|()| list.seen)
+    };
+    for (seed, (input, what)) in judge_each(&part, &seeds, judge, |found| seen.add(&found)) {
+        part.differs(&format!("list seed {seed}"), &input, &what);
     }
     part.require(place, &seen);
     part.end(&format!("{} lists", grouped(count)))

@@ -6,7 +6,7 @@ use crate::coverage::answers::{ANSWERS, READ, ROUNDS, WRITTEN};
 use crate::coverage::{Place, Seen, Watcher};
 use crate::judge::{judge_trial, Calls};
 use crate::report::{grouped, Part};
-use crate::workers;
+use crate::workers::judge_each;
 
 /// The least calls that a comparison must have covered.
 pub const LEAST_CALLS: u64 = 100_000;
@@ -48,16 +48,10 @@ pub fn judge(path: &str, calls: &[u8]) -> Result<(Vec<u8>, Calls, Seen), String>
 /// Puts trials to the program at a path; true only if all agree and enough was compared.
 pub fn compare(path: &str, trials: Vec<Input>, details: bool) -> bool {
     let (mut part, mut tried) = (Part::new("trials", details), Tried::default());
-    let judged = workers::for_each(&trials, |input| {
-        let judged = judge(path, &input.bytes());
-        part.done();
-        judged.map(|(_, count, seen)| (count, seen))
-    });
-    for (input, judged) in trials.iter().zip(judged) {
-        match judged {
-            Ok((count, seen)) => tried.take(&count, &seen),
-            Err(what) => part.differs(&input.name, &input.bytes(), &what),
-        }
+    let judge = |input: &Input| judge(path, &input.bytes());
+    let take = |(_, calls, seen): (Vec<u8>, _, _)| tried.take(&calls, &seen);
+    for (input, what) in judge_each(&part, &trials, judge, take) {
+        part.differs(&input.name, &input.bytes(), &what);
     }
     tried.end(part)
 }

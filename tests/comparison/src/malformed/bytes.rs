@@ -46,28 +46,25 @@ fn bytes(entries: &[Entry]) -> Vec<u8> {
     entries.iter().flat_map(Entry::bytes).collect()
 }
 
-/// Every value in every byte of an entry, its kind among them, before one that opens a period.
-fn with_every_byte(before: &[u8], entry: &Entry, feeds: &mut Vec<Vec<u8>>) {
-    let (entry, after) = (entry.bytes(), Entry::open(9).bytes());
-    for place in 0..entry.len() {
-        for value in 0..=u8::MAX {
-            let mut feed = [before, &entry, &after].concat();
-            feed[before.len() + place] = value;
-            feeds.push(feed);
-        }
-    }
+/// A feed of n and the scene.
+fn start(n: u8) -> Vec<u8> {
+    [&[n], &bytes(&scene())[..]].concat()
 }
 
-/// Every byte of every kind, as the first entry and where the entry would be accepted.
-pub fn every_byte() -> Vec<Vec<u8>> {
-    let mut feeds = Vec::new();
+/// Each byte of every kind, as the first entry and where the entry would be accepted, before one that
+/// opens a period: the feed, and the byte's place in it.
+pub fn every_place() -> Vec<(Vec<u8>, usize)> {
+    let mut places = Vec::new();
     for n in EVERY_N {
         for entry in acts() {
-            with_every_byte(&[n], &entry, &mut feeds);
-            with_every_byte(&[&[n], &bytes(&scene())[..]].concat(), &entry, &mut feeds);
+            for before in [vec![n], start(n)] {
+                let feed = [&before[..], &bytes(&[entry, Entry::open(9)])].concat();
+                let of_entry = before.len()..before.len() + entry.bytes().len();
+                places.extend(of_entry.map(|place| (feed.clone(), place)));
+            }
         }
     }
-    feeds
+    places
 }
 
 /// A feed of all kinds cut after each of its bytes, and one that is longer than a block
@@ -75,14 +72,16 @@ pub fn every_byte() -> Vec<Vec<u8>> {
 pub fn every_cut() -> Vec<Vec<u8>> {
     let mut feeds = Vec::new();
     for n in EVERY_N {
-        let whole = [&[n], &bytes(&scene())[..], &bytes(&acts())].concat();
+        let whole = [start(n), bytes(&acts())].concat();
         feeds.extend((0..=whole.len()).map(|length| whole[..length].to_vec()));
-        let mut long = [&[n], &bytes(&scene())[..]].concat();
+        let mut long = start(n);
         while long.len() < BLOCK + ABOUT {
-            long.extend(Entry::energy(4, 0, 0, 5_000, 9_000).bytes());
-            long.extend(Entry::receipt(3, 2, 1).bytes());
-            long.extend(Entry::purse(0, 1).bytes());
-            long.extend(Entry::washup(4, 3, 0, 0, 1_000, 5_000, 9_000).bytes());
+            long.extend(bytes(&[
+                Entry::energy(4, 0, 0, 5_000, 9_000),
+                Entry::receipt(3, 2, 1),
+                Entry::purse(0, 1),
+                Entry::washup(4, 3, 0, 0, 1_000, 5_000, 9_000),
+            ]));
         }
         let lengths = BLOCK - ABOUT..=BLOCK + ABOUT;
         feeds.extend(lengths.map(|length| long[..length].to_vec()));

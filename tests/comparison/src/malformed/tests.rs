@@ -1,6 +1,6 @@
 //! The malformed feeds against listings in this process, right ones and wrong ones.
 
-use super::{bytes, judge_all, judge_malformed, noise, Feeds, Program, Run, Totals};
+use super::{bytes, every_feed, judge_all, noise, Feeds, Judged, Run, SHARE};
 use crate::report::Part;
 use reckoning::programs::listing::{listing, listing_within};
 use reckoning::rules::book::Book;
@@ -14,16 +14,14 @@ fn wrong(feed: &[u8], from: &str, to: &str) -> Result<Vec<u8>, String> {
     Ok(text.replace(from, to).into_bytes())
 }
 
-fn part() -> Part {
-    Part::new("malformed", false)
+fn of_noise(run: &Run) -> (Feeds, Judged) {
+    let [_, _, noise] = every_feed(MARKET, SHARE, FEEDS);
+    let judged = noise.judge(&Part::new("malformed", false), MARKET, run);
+    (noise, judged)
 }
 
-fn by<R: Run>(limits: Limits, run: R) -> Program<R> {
-    Program { of: "", limits, details: false, run }
-}
-
-fn of_noise(run: impl Fn(&[u8]) -> Result<Vec<u8>, String> + Sync) -> Totals {
-    judge_all(&part(), FEEDS, |number| noise::feed(number as u64), &by(MARKET, run))
+fn stand(feeds: &[Feeds], limits: Limits, run: &Run) -> bool {
+    judge_all("", feeds, (limits, run), false)
 }
 
 #[test]
@@ -41,73 +39,48 @@ fn each_act_is_accepted_after_the_scene_alone_and_in_order() {
     }
 }
 
-/// A part of the feeds, since here the time counts.
-fn some_feeds() -> Feeds {
-    let every_byte = bytes::every_byte().into_iter().step_by(13).collect();
-    let every_cut = bytes::every_cut().into_iter().step_by(17).collect();
-    Feeds { every_byte, every_cut, random: FEEDS }
-}
-
+/// The demonstration's share; of the listing's feeds a part too, since here the time counts.
 #[test]
 fn a_right_listing_stands_in_its_own_book_alone() {
-    for limits in [MARKET, DEMONSTRATION] {
+    for (limits, others) in [(MARKET, DEMONSTRATION), (DEMONSTRATION, MARKET)] {
         let right = |feed: &[u8]| Ok(listing_within(limits, feed));
-        assert!(judge_malformed(&some_feeds(), &by(limits, right)));
-        let others = [MARKET, DEMONSTRATION].into_iter().find(|&others| others != limits).unwrap();
-        assert!(!judge_malformed(&some_feeds(), &by(others, right)));
+        assert!(stand(&every_feed(limits, SHARE, FEEDS), limits, &right));
+        assert!(!stand(&every_feed(others, SHARE, FEEDS), others, &right));
     }
-}
-
-#[test]
-fn a_right_demonstration_stands_over_its_share() {
-    let (every_byte, every_cut) = (bytes::every_byte(), bytes::every_cut());
-    let share = Feeds { every_byte, every_cut, random: FEEDS }.share();
-    let right = |feed: &[u8]| Ok(listing_within(DEMONSTRATION, feed));
-    assert!(judge_malformed(&share, &by(DEMONSTRATION, right)));
 }
 
 #[test]
 fn each_wrong_answer_to_bytes_is_told() {
     for (from, to) in [(" 1 0 ", " 2 0 "), (" 2 0 ", " 3 0 "), (" 3 0 ", " 0 0 ")] {
-        let hit = |feed: &[u8]| String::from_utf8(listing(feed)).unwrap().contains(from);
-        let expected = (0..FEEDS).filter(|&number| hit(&noise::feed(number as u64))).count();
-        let totals = of_noise(|feed| wrong(feed, from, to));
-        assert!(expected > 0);
-        assert_eq!(totals.different.len(), expected, "{from}");
-        let (feed, what) = &totals.different[0];
-        assert!(hit(feed) && what.starts_with("line "), "{what}");
+        let hit = |&number: &usize| {
+            let right = String::from_utf8(listing(&noise::feed(number as u64))).unwrap();
+            right.contains(from)
+        };
+        let (_, judged) = of_noise(&|feed| wrong(feed, from, to));
+        let told: Vec<usize> = judged.different.iter().map(|&(number, _)| number).collect();
+        assert_eq!(told, (0..FEEDS).filter(hit).collect::<Vec<_>>(), "{from}");
+        assert!(judged.different[0].1.starts_with("line "), "{from}");
     }
 }
 
+/// By what it prints, or by how it ends.
 #[test]
-fn a_listing_wrong_in_one_part_fails_the_whole() {
-    let feeds = some_feeds();
-    let chosen = [
-        feeds.every_byte.last().cloned(),
-        feeds.every_cut.last().cloned(),
-        Some(noise::feed(FEEDS as u64 - 1)),
-    ];
-    for chosen in chosen {
-        let right = |feed: &[u8]| Some(feed) != chosen.as_deref();
-        let run = |feed: &[u8]| Ok(if right(feed) { listing(feed) } else { vec![] });
-        assert!(!judge_malformed(&feeds, &by(MARKET, run)));
+fn a_program_wrong_on_one_feed_is_told_in_each_part() {
+    let every = every_feed(MARKET, SHARE, FEEDS);
+    for feeds in &every {
+        let chosen = (feeds.feed)(*feeds.numbers.last().unwrap());
+        let right = |feed: &[u8]| (feed != chosen).then(|| listing(feed));
+        let failing = |feed: &[u8]| right(feed).ok_or("ended by a signal".to_string());
+        assert!(!stand(&every, MARKET, &|feed| Ok(right(feed).unwrap_or_default())));
+        assert!(!stand(&every, MARKET, &failing));
     }
-}
-
-#[test]
-fn a_program_that_fails_on_one_feed_is_told() {
-    let chosen = noise::feed(FEEDS as u64 - 1);
-    let totals = of_noise(|feed| match feed == chosen {
-        true => Err("ended by a signal".into()),
-        false => Ok(listing(feed)),
-    });
-    assert_eq!(totals.different, [(chosen.clone(), "ended by a signal".to_string())]);
-    assert!(!totals.stands(part(), &[]));
 }
 
 #[test]
 fn feeds_that_never_show_an_answer_cover_too_little() {
-    let totals = of_noise(|feed| Ok(listing(feed)));
-    assert!(totals.stands(part(), &[0, 1, 2, 3, 4]));
-    assert!(!totals.stands(part(), &[5]));
+    let (mut noise, judged) = of_noise(&|feed| Ok(listing(feed)));
+    for (answers, stands) in [(vec![0, 1, 2, 3, 4], true), (vec![5], false)] {
+        noise.answers = answers;
+        assert_eq!(noise.stands(Part::new("malformed", false), &judged), stands);
+    }
 }
