@@ -2,8 +2,8 @@
 
 use std::io::{self, Read, Write};
 use std::os::fd::OwnedFd;
-use std::process::{Child, Command, ExitStatus, Stdio};
-use std::sync::mpsc::{self, Receiver, RecvTimeoutError};
+use std::process::{Child, Command, Stdio};
+use std::sync::mpsc::{self, Receiver, RecvTimeoutError, Sender};
 use std::sync::Mutex;
 use std::thread;
 use std::time::Duration;
@@ -42,50 +42,66 @@ fn read_all(mut from: impl Read) -> io::Result<Vec<u8>> {
     from.read_to_end(&mut bytes).map(|_| bytes)
 }
 
-/// Ends a program that takes too long.
-fn guard(child: &Mutex<Child>, ended: Receiver<()>) {
-    if ended.recv_timeout(LONGEST) == Err(RecvTimeoutError::Timeout) {
-        // A program that has ended already needs no end.
-        child.lock().expect("held by no other").kill().ok();
+/// Ends a program of which nothing is said for too long.
+fn guard(child: &Mutex<Child>, goes_on: Receiver<()>) {
+    loop {
+        match goes_on.recv_timeout(LONGEST) {
+            Ok(()) => (),
+            Err(RecvTimeoutError::Disconnected) => return,
+            // A program that has ended already needs no end.
+            Err(RecvTimeoutError::Timeout) => {
+                child.lock().expect("held by no other").kill().ok();
+                return;
+            }
+        }
     }
 }
 
-/// What a started program prints until it closes its outputs, and how it ended.
-fn printed(mut child: Child) -> io::Result<(Printed, ExitStatus)> {
-    let stdout = child.stdout.take();
-    let stderr = child.stderr.take().expect("piped");
+/// Does work beside the program at a path: what the work gives, and what the program printed on standard
+/// error. The work knows its process and may say that it goes on, since one that takes too long is ended.
+pub fn run_beside<T>(
+    path: &str,
+    (input, output): (OwnedFd, OwnedFd),
+    work: impl FnOnce(u32, &Sender<()>) -> Result<T, String>,
+) -> Result<(T, Vec<u8>), String> {
+    let failed = |what: io::Error| format!("{path}: {what}");
+    let mut command = Command::new(path);
+    let child = command.stdin(input).stdout(output).stderr(Stdio::piped()).spawn();
+    // It holds the program's streams too: who is at their other end must see when the program ends.
+    drop(command);
+    let mut child = child.map_err(failed)?;
+    let (process, stderr) = (child.id(), child.stderr.take().expect("piped"));
     let child = Mutex::new(child);
-    let printed = thread::scope(|scope| {
-        let (ends, ended) = mpsc::channel();
-        let child = &child;
-        scope.spawn(move || guard(child, ended));
-        // Both are read at the same time, so that the program never waits for either.
-        let errors = scope.spawn(move || read_all(stderr));
-        let output = stdout.map_or(Ok(Vec::new()), read_all);
+    let (done, errors) = thread::scope(|scope| {
+        let (goes_on, said) = mpsc::channel();
+        scope.spawn(|| guard(&child, said));
+        // Both outputs are read at the same time, so that the program never waits for either.
+        let errors = scope.spawn(|| read_all(stderr));
+        let done = work(process, &goes_on);
         let errors = errors.join().expect("a reader ends");
-        drop(ends);
-        Ok::<_, io::Error>(Printed { output: output?, errors: errors? })
-    })?;
-    let status = child.into_inner().expect("held by no other").wait()?;
-    Ok((printed, status))
+        drop(goes_on);
+        (done, errors)
+    });
+    let status = child.into_inner().expect("held by no other").wait().map_err(failed)?;
+    let (done, errors) = (done?, errors.map_err(failed)?);
+    match status.code() {
+        Some(0) => Ok((done, errors)),
+        Some(code) => {
+            Err(format!("{path}: ended with status {code}, standard error {}", shown(&errors)))
+        }
+        None => Err(format!("{path}: ended by a signal, or took too long ({status})")),
+    }
 }
 
 /// What the program at a path prints for a standard input. Its standard output is read, unless
 /// one is given.
 pub fn run_on(path: &str, input: OwnedFd, output: Option<OwnedFd>) -> Result<Printed, String> {
     let failed = |what: io::Error| format!("{path}: {what}");
-    let output = output.map_or_else(Stdio::piped, Stdio::from);
-    let mut command = Command::new(path);
-    let child = command.stdin(input).stdout(output).stderr(Stdio::piped()).spawn();
-    // It holds the program's input too: who writes to it must see when the program ends.
-    drop(command);
-    let (printed, status) = child.and_then(printed).map_err(failed)?;
-    let errors = shown(&printed.errors);
-    match status.code() {
-        Some(0) => Ok(printed),
-        Some(code) => Err(format!("{path}: ended with status {code}, standard error {errors}")),
-        None => Err(format!("{path}: ended by a signal, or took too long ({status})")),
-    }
+    let (printed, ours) = io::pipe().map_err(failed)?;
+    let output = output.unwrap_or(ours.into());
+    let read = |_, _: &_| read_all(printed).map_err(failed);
+    let (output, errors) = run_beside(path, (input, output), read)?;
+    Ok(Printed { output, errors })
 }
 
 /// The standard output of the program at a path for an input. Its standard error must be empty.

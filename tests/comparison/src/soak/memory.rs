@@ -1,32 +1,19 @@
-//! The memory of a running program, as the system reports it.
+//! The most memory that a running program ever had, as the system reports it.
 
 use std::fs;
 
 /// The most KiB by which a program may grow: some pages.
 const MOST_GROWTH: u64 = 64;
 
-/// In KiB.
-#[derive(Clone, Copy, Debug, PartialEq, Eq)]
-pub struct Sample {
-    /// The most that was ever in memory.
-    pub most: u64,
-    /// What is in memory now.
-    pub now: u64,
-}
-
-fn field(status: &str, name: &str) -> Option<u64> {
-    let line = status.lines().find_map(|line| line.strip_prefix(name)?.strip_prefix(':'))?;
-    line.split_whitespace().next()?.parse().ok()
-}
-
-fn parse(status: &str) -> Option<Sample> {
-    Some(Sample { most: field(status, "VmHWM")?, now: field(status, "VmRSS")? })
-}
-
-/// The first and the last sample that could be taken.
+/// The first and the last sample that could be taken, in KiB.
 #[derive(Clone, Copy, Debug, Default)]
 pub struct Memory {
-    samples: Option<(Sample, Sample)>,
+    samples: Option<(u64, u64)>,
+}
+
+fn parse(status: &str) -> Option<u64> {
+    let line = status.lines().find_map(|line| line.strip_prefix("VmHWM:"))?;
+    line.split_whitespace().next()?.parse().ok()
 }
 
 impl Memory {
@@ -38,18 +25,20 @@ impl Memory {
         }
     }
 
-    fn add(&mut self, sample: Sample) {
+    fn add(&mut self, sample: u64) {
         let first = self.samples.map_or(sample, |(first, _)| first);
         self.samples = Some((first, sample));
     }
 
     /// The two samples, if the program did not grow between them.
-    pub fn judge(&self) -> Result<(Sample, Sample), String> {
-        let (first, last) = self.samples.ok_or("it could not be measured")?;
-        if last.most > first.most + MOST_GROWTH {
-            return Err(format!("it grew from {} to {} KiB", first.most, last.most));
+    pub fn judge(&self) -> Result<(u64, u64), String> {
+        match self.samples {
+            None => Err("it could not be measured".into()),
+            Some((first, last)) if last > first + MOST_GROWTH => {
+                Err(format!("it grew from {first} to {last} KiB"))
+            }
+            Some(samples) => Ok(samples),
         }
-        Ok((first, last))
     }
 }
 
@@ -58,9 +47,9 @@ mod tests {
     use super::*;
 
     #[test]
-    fn both_numbers_are_read() {
+    fn the_number_is_read() {
         let status = "Name:\tx\nVmPeak:\t 9 kB\nVmHWM:\t    1234 kB\nVmRSS:\t    1200 kB\n";
-        assert_eq!(parse(status), Some(Sample { most: 1234, now: 1200 }));
+        assert_eq!(parse(status), Some(1234));
         assert_eq!(parse("Name:\tx\nState:\tZ (zombie)\n"), None);
     }
 
@@ -68,10 +57,10 @@ mod tests {
     fn growth_is_told() {
         let mut memory = Memory::default();
         assert!(memory.judge().is_err());
-        memory.add(Sample { most: 1000, now: 900 });
-        memory.add(Sample { most: 1000 + MOST_GROWTH, now: 1000 });
+        memory.add(1000);
+        memory.add(1000 + MOST_GROWTH);
         assert!(memory.judge().is_ok());
-        memory.add(Sample { most: 1001 + MOST_GROWTH, now: 1000 });
+        memory.add(1001 + MOST_GROWTH);
         assert_eq!(memory.judge(), Err("it grew from 1000 to 1065 KiB".into()));
     }
 }

@@ -173,47 +173,47 @@ impl Rotation {
         money.or_else(|| self.energy_washup_or_amount())
     }
 
-    /// A period in the book at a stage.
-    fn any_at(&mut self, fits: fn(&Period) -> bool) -> Option<u32> {
+    /// A period in the book at a stage, and one of its payers that pays.
+    fn any_payer(
+        &mut self,
+        at: fn(&Period) -> bool,
+        pays: fn(&Rotation, usize, u32) -> bool,
+    ) -> Option<(u32, usize)> {
         let periods = self.aim.book.periods.iter();
         let numbers: Vec<u32> =
-            periods.filter(|(_, period)| fits(period)).map(|(&number, _)| number).collect();
-        (!numbers.is_empty()).then(|| self.aim.random.pick(&numbers))
+            periods.filter(|(_, period)| at(period)).map(|(&number, _)| number).collect();
+        let number = self.pick(&numbers)?;
+        let mut payers = self.aim.payers(number);
+        payers.retain(|&payer| pays(self, payer, number));
+        self.pick(&payers).map(|payer| (number, payer))
+    }
+
+    fn pick<T: Copy>(&mut self, from: &[T]) -> Option<T> {
+        (!from.is_empty()).then(|| self.aim.random.pick(from))
     }
 
     fn receipt(&mut self) -> Option<Entry> {
-        let number = self.any_at(Period::is_noticed)?;
-        let mut payers = self.aim.payers(number);
-        payers.retain(|&payer| !self.fails(payer, number));
-        if payers.is_empty() {
-            return None;
-        }
-        let payer = self.aim.random.pick(&payers);
+        let (number, payer) = self.any_payer(Period::is_noticed, Rotation::pays)?;
         Some(self.aim.receipt_of(number, payer))
     }
 
     /// All of a payer's arrears in a period, or a small part of them.
     fn late_receipt(&mut self) -> Option<Entry> {
-        let number = self.any_at(Period::is_settled)?;
-        let payers = self.aim.payers(number);
-        if payers.is_empty() {
-            return None;
-        }
-        let payer = self.aim.random.pick(&payers);
+        let (number, payer) = self.any_payer(Period::is_settled, |_, _, _| true)?;
         let arrears = self.aim.book.periods[&number].arrears_of(payer) as u64;
-        let whole = self.recovers(payer);
         let part = self.aim.random.between(1, arrears.div_ceil(8));
-        Some(Entry::receipt(number, payer as u8, if whole { arrears } else { part }))
+        let cents = if self.recovers(payer) { arrears } else { part };
+        Some(Entry::receipt(number, payer as u8, cents))
     }
 
     fn is_calm(&self) -> bool {
         self.reach.months_opened % ERA < CALM
     }
 
-    /// Whether a payer does not pay a period before settlement.
-    fn fails(&self, payer: usize, number: u32) -> bool {
+    /// Whether a payer pays a period before settlement.
+    fn pays(&self, payer: usize, number: u32) -> bool {
         let mut random = Random::new(u64::from(number) << 8 | payer as u64);
-        !self.is_calm() && random.chance(1, FAILING)
+        self.is_calm() || !random.chance(1, FAILING)
     }
 
     /// Whether a payer pays its arrears in full as long as the newest month is the newest.
