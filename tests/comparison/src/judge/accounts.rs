@@ -1,7 +1,6 @@
-//! What accepted entries come to, for demand 3: a period's account, and the purses.
+//! What the accepted entries of a period come to, for demand 3.
 
 use reckoning::rules::month::{self, Notice, StepOne, Sums, TIERS};
-use reckoning::rules::purse::MOST_PURSE;
 
 /// A period by the accepted entries that name it.
 pub struct Account {
@@ -13,14 +12,6 @@ pub struct Account {
     /// Receipts after the settle entry.
     pub late: Vec<u128>,
     pub paid: Vec<u128>,
-}
-
-/// The purses by the accepted entries, for each participant.
-pub struct Purses {
-    /// Cents of purse entries.
-    came_in: Vec<u128>,
-    /// Cents that settlements drew.
-    drawn: Vec<u128>,
 }
 
 pub fn sum(cents: &[u128]) -> u128 {
@@ -99,48 +90,9 @@ impl Account {
     }
 }
 
-impl Purses {
-    pub fn new(n: usize) -> Purses {
-        Purses { came_in: vec![0; n], drawn: vec![0; n] }
-    }
-
-    /// A participant's purse: what came in less what was drawn.
-    pub fn purse(&self, i: usize) -> Result<u128, String> {
-        let left = self.came_in[i].checked_sub(self.drawn[i]);
-        left.ok_or_else(|| "demand 3: more was drawn on a purse than came in".into())
-    }
-
-    pub fn total(&self) -> Result<u128, String> {
-        (0..self.came_in.len()).map(|i| self.purse(i)).sum()
-    }
-
-    /// Takes an accepted purse entry.
-    pub fn add(&mut self, i: usize, cents: u128) -> Result<(), String> {
-        self.came_in[i] += cents;
-        check(self.purse(i)? <= MOST_PURSE, "a purse above its bound")
-    }
-
-    /// Takes what a settlement drew, which is within the purse and within what was unpaid.
-    pub fn draw(&mut self, i: usize, cents: u128, unpaid: u128) -> Result<(), String> {
-        check(cents <= self.purse(i)?, "drawn above the purse")?;
-        check(cents <= unpaid, "drawn above what was unpaid")?;
-        self.drawn[i] += cents;
-        Ok(())
-    }
-}
-
 #[cfg(test)]
 mod tests {
     use super::*;
-
-    /// 300 and 100 came in, and 250 are drawn of 250 unpaid.
-    fn purses() -> Purses {
-        let mut purses = Purses::new(2);
-        purses.add(0, 300).unwrap();
-        purses.add(1, 100).unwrap();
-        purses.draw(0, 250, 250).unwrap();
-        purses
-    }
 
     /// A period of three that is settled with claims of 0, 100 and 0 cents and 50 in arrears, after
     /// so many late cents, of which so many were paid.
@@ -153,46 +105,18 @@ mod tests {
 
     #[test]
     fn a_settled_period_holds_at_most_n_less_1_cents() {
-        assert_eq!(
-            (settled(0, 50), settled(0, 49), settled(0, 48)),
-            (Ok(false), Ok(false), Ok(false))
-        );
+        assert_eq!([50, 49, 48].map(|paid| settled(0, paid)), [Ok(false), Ok(false), Ok(false)]);
         assert!(settled(0, 47).unwrap_err().ends_with("above n − 1"));
         assert!(settled(0, 51).unwrap_err().ends_with("more paid in a period than received in it"));
     }
 
     #[test]
     fn a_settled_period_holds_nothing_after_a_late_receipt() {
-        assert_eq!(
-            (settled(1, 51), settled(49, 99), settled(50, 100)),
-            (Ok(false), Ok(false), Ok(true))
-        );
+        let paid_out = [1, 49, 50].map(|late| settled(late, 50 + late));
+        assert_eq!(paid_out, [Ok(false), Ok(false), Ok(true)]);
         for late in [1, 49, 50] {
             let held = settled(late, 49 + late).unwrap_err();
             assert!(held.ends_with("held money after a late receipt"), "{held}");
         }
-    }
-
-    #[test]
-    fn a_purse_is_what_came_in_less_what_was_drawn() {
-        let purses = purses();
-        assert_eq!((purses.purse(0), purses.purse(1)), (Ok(50), Ok(100)));
-        assert_eq!(purses.total(), Ok(150));
-    }
-
-    #[test]
-    fn what_is_drawn_above_the_purse_or_above_what_was_unpaid_is_told() {
-        assert!(purses().draw(0, 50, 50).is_ok());
-        assert!(purses().draw(0, 51, 51).unwrap_err().ends_with("above the purse"));
-        assert!(purses().draw(0, 50, 49).unwrap_err().ends_with("above what was unpaid"));
-    }
-
-    #[test]
-    fn a_purse_below_0_or_above_its_bound_is_told() {
-        let mut below = purses();
-        below.drawn[0] = 301;
-        assert!(below.purse(0).is_err() && below.total().is_err());
-        assert!(purses().add(0, MOST_PURSE - 50).is_ok());
-        assert!(purses().add(0, MOST_PURSE - 49).is_err());
     }
 }

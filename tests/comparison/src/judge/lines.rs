@@ -29,15 +29,16 @@ impl Line {
     }
 }
 
-fn numbers<const K: usize>(words: &[&str]) -> Option<[u128; K]> {
-    let values: Option<Vec<u128>> = words.iter().map(|word| word.parse().ok()).collect();
+/// Numbers of 64 bits, so that no sum of them wraps.
+fn numbers<const K: usize>(words: &[&str]) -> Option<[u64; K]> {
+    let values: Option<Vec<u64>> = words.iter().map(|word| word.parse().ok()).collect();
     values?.try_into().ok()
 }
 
 fn entry_line(words: &[&str]) -> Option<Line> {
     let [number, answer, paid, held] = numbers(words)?;
     let answer = u8::try_from(answer).ok().filter(|&answer| usize::from(answer) < NUMBERS)?;
-    Some(Line { number: u64::try_from(number).ok()?, answer, paid, held, pays: vec![] })
+    Some(Line { number, answer, paid: paid.into(), held: held.into(), pays: vec![] })
 }
 
 /// The lines of a listing after its header.
@@ -56,7 +57,7 @@ pub fn parse(listing: &[u8]) -> Result<Vec<Line>, String> {
         if words[0] == "pay" {
             let [participant, cents] = numbers(&words[1..]).ok_or_else(unknown)?;
             let line = lines.last_mut().ok_or_else(unknown)?;
-            line.pays.push((usize::try_from(participant).map_err(|_| unknown())?, cents));
+            line.pays.push((participant as usize, cents.into()));
         } else {
             lines.push(entry_line(&words).ok_or_else(unknown)?);
         }
