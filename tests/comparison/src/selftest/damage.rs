@@ -11,291 +11,248 @@ use reckoning::programs::listing::listing_within;
 use reckoning::programs::trial;
 use reckoning::rules::limits::{Limits, DEMONSTRATION, MARKET};
 
-/// Changes the lines of an output; false if there is nothing it could damage.
-type Change = fn(&mut Vec<String>) -> bool;
+/// A line by its words. After the end of the last line of an output stands an empty one.
+type Line = Vec<String>;
 
+/// Whether the line at a place fits, and what changes it.
+type Fits = fn(&[Line], usize) -> bool;
+type Change = fn(&mut Vec<Line>, usize);
+
+/// Changes the last line of an output that fits.
 struct Damage {
     name: &'static str,
+    fits: Fits,
     change: Change,
     /// Whether demand 3 alone, without the reckoned text, must show it too.
     by_demand_3: bool,
 }
 
 /// A damage that the reckoned text and demand 3 alone must each show.
-const fn both(name: &'static str, change: Change) -> Damage {
-    Damage { name, change, by_demand_3: true }
+const fn both(name: &'static str, fits: Fits, change: Change) -> Damage {
+    Damage { name, fits, change, by_demand_3: true }
 }
 
 /// A damage that the reckoned text must show.
-const fn by_text(name: &'static str, change: Change) -> Damage {
-    Damage { name, change, by_demand_3: false }
+const fn by_text(name: &'static str, fits: Fits, change: Change) -> Damage {
+    Damage { name, fits, change, by_demand_3: false }
 }
 
-fn words(line: &str) -> Vec<String> {
-    line.split(' ').map(String::from).collect()
+fn is_entry(lines: &[Line], at: usize) -> bool {
+    lines[at].len() == 4 && lines[at][0] != "entry"
 }
 
-/// Adds to a number of the last line that starts as given, has it, and passes the test.
-fn raise(lines: &mut [String], start: &str, place: usize, fits: fn(&[String]) -> bool) -> bool {
-    for line in lines.iter_mut().rev() {
-        let mut words = words(line);
-        if line.starts_with(start) && words.len() > place && fits(&words) {
-            let number: u64 = words[place].parse().expect("a number");
-            words[place] = (number + 1).to_string();
-            *line = words.join(" ");
-            return true;
-        }
-    }
-    false
+/// Whether it is an entry that was answered with one of some numbers.
+fn answered(lines: &[Line], at: usize, with: &[&str]) -> bool {
+    is_entry(lines, at) && with.contains(&lines[at][1].as_str())
 }
 
-/// Loses the last line that passes the test.
-fn lose(lines: &mut Vec<String>, fits: fn(&[String]) -> bool) -> bool {
-    let place = lines.iter().rposition(|line| fits(&words(line)));
-    place.map(|place| lines.remove(place)).is_some()
+/// Whether it is an entry after which more money is held.
+fn holds_more(lines: &[Line], at: usize) -> bool {
+    let held = |at: usize| lines[at][3].parse::<u64>().expect("a number");
+    let before = (0..at).rfind(|&before| is_entry(lines, before));
+    is_entry(lines, at) && before.is_some_and(|before| held(before) < held(at))
 }
 
-fn is_entry(words: &[String]) -> bool {
-    words.len() == 4 && words[0] != "entry"
+fn is_pay(lines: &[Line], at: usize) -> bool {
+    lines[at][0] == "pay"
 }
 
-fn is_pay(words: &[String]) -> bool {
-    words[0] == "pay"
+/// Whether it is the second of two payouts of one entry.
+fn is_second_pay(lines: &[Line], at: usize) -> bool {
+    at > 0 && is_pay(lines, at - 1) && is_pay(lines, at)
 }
 
-/// Swaps the cents of the last two payouts of one entry that differ.
-fn swap_payouts(lines: &mut [String]) -> bool {
-    for at in (1..lines.len()).rev() {
-        let (mut one, mut other) = (words(&lines[at - 1]), words(&lines[at]));
-        if is_pay(&one) && is_pay(&other) && one[2] != other[2] {
-            std::mem::swap(&mut one[2], &mut other[2]);
-            lines[at - 1] = one.join(" ");
-            lines[at] = other.join(" ");
-            return true;
-        }
-    }
-    false
+/// Whether it starts with a word and has one at a place.
+fn has(start: &str, lines: &[Line], at: usize, place: usize) -> bool {
+    lines[at][0] == start && lines[at].len() > place
 }
 
-/// Moves a cent between the last two payouts of one entry.
-fn move_a_cent(lines: &mut [String]) -> bool {
-    let two = |at: &usize| is_pay(&words(&lines[at - 1])) && is_pay(&words(&lines[*at]));
-    let Some(at) = (1..lines.len()).rev().find(two) else {
-        return false;
-    };
-    for (place, more) in [(at - 1, -1), (at, 1)] {
-        let mut pay = words(&lines[place]);
-        pay[2] = (pay[2].parse::<i64>().expect("a number") + more).to_string();
-        lines[place] = pay.join(" ");
-    }
-    true
+/// The first payout word that has a cent and one after it, where an entry was accepted.
+fn paid_word(line: &Line) -> Option<usize> {
+    let accepted = line[0] == "apply" && line[1] == "0";
+    (4..line.len().max(5) - 1).find(|&place| accepted && line[place] != "0")
 }
 
-/// Moves a cent from the first payout word of the last entry that paid to the word after it.
-fn move_a_cent_of_words(lines: &mut [String]) -> bool {
-    let paid = |words: &[String]| words[0] == "apply" && words[1] == "0" && words.len() > 5;
-    for line in lines.iter_mut().rev() {
-        let mut words = words(line);
-        let Some(at) = (4..words.len() - 1).find(|&at| paid(&words) && words[at] != "0") else {
-            continue;
-        };
-        for (place, more) in [(at, -1), (at + 1, 1)] {
-            words[place] = (words[place].parse::<i64>().expect("a number") + more).to_string();
-        }
-        *line = words.join(" ");
-        return true;
-    }
-    false
+fn add(lines: &mut [Line], at: usize, place: usize, more: i64) {
+    let number: i64 = lines[at][place].parse().expect("a number");
+    lines[at][place] = (number + more).to_string();
 }
 
-/// Turns the last accepted entry that paid nothing and after which money is held into a refusal.
-fn refuse_accepted(lines: &mut [String]) -> bool {
-    let fits = |words: &[String]| is_entry(words) && words[1..3] == ["0", "0"] && words[3] != "0";
-    raise(lines, "", 1, fits)
+fn lose(lines: &mut Vec<Line>, at: usize) {
+    lines.remove(at);
 }
 
-/// Refuses the last accepted entry after which more money is held.
-fn refuse_money(lines: &mut [String]) -> bool {
-    let entries: Vec<usize> = (0..lines.len()).filter(|&at| is_entry(&words(&lines[at]))).collect();
-    let held = |at: usize| words(&lines[at])[3].parse::<u64>().expect("a number");
-    let rises = |pair: &&[usize]| held(pair[0]) < held(pair[1]);
-    let Some(at) = entries.windows(2).rfind(rises).map(|pair| pair[1]) else {
-        return false;
-    };
-    lines[at] = lines[at].replacen(" 0 ", " 15 ", 1);
-    true
+fn accept(lines: &mut Vec<Line>, at: usize) {
+    lines[at][1..3].fill("0".into());
 }
 
-/// Accepts the last entry that was refused with one of some numbers.
-fn accept_refused(lines: &mut [String], with: &[&str]) -> bool {
-    let refused = |line: &&mut String| {
-        let words = words(line);
-        is_entry(&words) && with.contains(&words[1].as_str())
-    };
-    let line = lines.iter_mut().rev().find(refused);
-    line.map(|line| *line = format!("{} 0 0 {}", words(line)[0], words(line)[3])).is_some()
+fn swap_cents(lines: &mut Vec<Line>, at: usize) {
+    let cents = lines[at][2].clone();
+    lines[at][2] = std::mem::replace(&mut lines[at - 1][2], cents);
 }
 
-/// Turns a refusal into another.
-fn change_refusal(lines: &mut [String]) -> bool {
-    raise(lines, "", 1, |words| is_entry(words) && words[1] == "8")
+/// Moves a cent from a word to another.
+fn move_a_cent(lines: &mut [Line], from: (usize, usize), to: (usize, usize)) {
+    add(lines, from.0, from.1, -1);
+    add(lines, to.0, to.1, 1);
 }
 
-const OF_LISTING: [Damage; 16] = [
-    both("a payout changed by a cent", |l| raise(l, "pay ", 2, is_pay)),
-    both("a payout given to the next participant", |l| raise(l, "pay ", 1, is_pay)),
-    both("two payouts swapped", |l| swap_payouts(l)),
-    both("a cent moved between two payouts", |l| move_a_cent(l)),
-    both("an entry's line lost", |l| lose(l, is_entry)),
-    both("a payout's line lost", |l| lose(l, is_pay)),
-    both("held changed", |l| raise(l, "", 3, is_entry)),
-    both("paid changed", |l| raise(l, "", 2, is_entry)),
-    by_text("an accepted entry refused", |l| refuse_accepted(l)),
-    by_text("a refusal changed to another", |l| change_refusal(l)),
-    both("money that came in refused", |l| refuse_money(l)),
-    both("money that was refused accepted", |l| accept_refused(l, &["13", "14", "15"])),
-    both("a washup that was refused accepted", |l| accept_refused(l, &["16"])),
-    by_text("an opening that was refused with 7 accepted", |l| accept_refused(l, &["7"])),
-    both("an entry's number changed", |l| raise(l, "", 0, is_entry)),
-    both("the header lost", |l| !l.remove(0).is_empty()),
+const OF_LISTING: [Damage; 18] = [
+    both("a payout changed by a cent", is_pay, |l, at| add(l, at, 2, 1)),
+    both("a payout given to the next participant", is_pay, |l, at| add(l, at, 1, 1)),
+    both(
+        "two payouts swapped",
+        |l, at| is_second_pay(l, at) && l[at - 1][2] != l[at][2],
+        swap_cents,
+    ),
+    both("a cent moved between two payouts", is_second_pay, |l, at| {
+        move_a_cent(l, (at - 1, 2), (at, 2))
+    }),
+    both("an entry's line lost", is_entry, lose),
+    both("a payout's line lost", is_pay, lose),
+    both("held changed", is_entry, |l, at| add(l, at, 3, 1)),
+    both("paid changed", is_entry, |l, at| add(l, at, 2, 1)),
+    by_text(
+        "an accepted entry refused",
+        |l, at| answered(l, at, &["0"]) && l[at][2] == "0" && l[at][3] != "0",
+        |l, at| add(l, at, 1, 1),
+    ),
+    by_text(
+        "a refusal changed to another",
+        |l, at| answered(l, at, &["8"]),
+        |l, at| add(l, at, 1, 1),
+    ),
+    both("money that came in refused", holds_more, |l, at| add(l, at, 1, 15)),
+    both("money that was refused accepted", |l, at| answered(l, at, &["13", "14", "15"]), accept),
+    both("a washup that was refused accepted", |l, at| answered(l, at, &["16"]), accept),
+    by_text("an opening that was refused with 7 accepted", |l, at| answered(l, at, &["7"]), accept),
+    both("an entry's number changed", is_entry, |l, at| add(l, at, 0, 1)),
+    both("the header lost", |_, at| at == 0, lose),
+    by_text("the last end of line lost", |_, _| true, lose),
+    by_text("a line too many", |_, _| true, |l, _| l.push(vec![String::new()])),
 ];
 
 const OF_TRIAL: [Damage; 9] = [
-    by_text("a book's answer changed", |l| raise(l, "book", 1, |_| true)),
-    by_text("an answer changed", |l| raise(l, "apply", 1, |_| true)),
-    by_text("the rounds changed", |l| raise(l, "apply", 2, |_| true)),
-    by_text("held changed", |l| raise(l, "apply", 3, |_| true)),
-    by_text("a payout word changed", |l| raise(l, "apply", 4, |_| true)),
-    by_text("a cent moved between two payout words", |l| move_a_cent_of_words(l)),
-    by_text("a field read changed", |l| raise(l, "read 0", 4, |_| true)),
-    by_text("a lent byte changed", |l| raise(l, "write", 3, |_| true)),
-    by_text("a line lost", |l| lose(l, |_| true)),
+    by_text("a book's answer changed", |l, at| has("book", l, at, 1), |l, at| add(l, at, 1, 1)),
+    by_text("an answer changed", |l, at| has("apply", l, at, 1), |l, at| add(l, at, 1, 1)),
+    by_text("the rounds changed", |l, at| has("apply", l, at, 2), |l, at| add(l, at, 2, 1)),
+    by_text("held changed", |l, at| has("apply", l, at, 3), |l, at| add(l, at, 3, 1)),
+    by_text("a payout word changed", |l, at| has("apply", l, at, 4), |l, at| add(l, at, 4, 1)),
+    by_text(
+        "a cent moved between two payout words",
+        |l, at| paid_word(&l[at]).is_some(),
+        |l, at| {
+            let place = paid_word(&l[at]).expect("it fits");
+            move_a_cent(l, (at, place), (at, place + 1));
+        },
+    ),
+    by_text(
+        "a field read changed",
+        |l, at| has("read", l, at, 4) && l[at][1] == "0",
+        |l, at| add(l, at, 4, 1),
+    ),
+    by_text("a lent byte changed", |l, at| has("write", l, at, 3), |l, at| add(l, at, 3, 1)),
+    by_text("a line lost", |l, at| at + 2 == l.len(), lose),
 ];
 
-/// The damaged output; nothing if there was nothing to damage.
-fn damaged(right: &[u8], damage: &Damage) -> Option<Vec<u8>> {
-    let text = std::str::from_utf8(right).expect("text");
-    let mut lines: Vec<String> = text.lines().map(String::from).collect();
-    let done = (damage.change)(&mut lines);
-    done.then(|| lines.iter().flat_map(|line| format!("{line}\n").into_bytes()).collect())
-}
-
-/// A feed by its name, and the limits of the book that it is listed in.
-struct Chosen {
-    name: String,
-    limits: Limits,
-    feed: Vec<u8>,
-    /// Whether demand 3 is put over its listings alone too.
-    example: bool,
-}
-
-/// The examples, those of a class in a demonstration book.
-fn chosen_examples() -> Vec<Chosen> {
-    let names = [("month-a", MARKET), ("purse", MARKET), ("washup", MARKET)];
-    let of_class = [("class", DEMONSTRATION), ("class-limits", DEMONSTRATION)];
-    let chosen = |(name, limits): (&str, Limits)| {
-        let feed = examples::example(name).expect("a name that exists");
-        Chosen { name: name.to_string(), limits, feed, example: true }
-    };
-    names.into_iter().chain(of_class).map(chosen).collect()
-}
-
-/// Feeds whose last months were settled and paid.
-fn chosen_feeds() -> Vec<Chosen> {
-    let mut chosen = chosen_examples();
-    for (seed, kind) in [
-        (2, "few"),
-        (5, "hundreds"),
-        (3, "millions"),
-        (1, "wide"),
-        (1, "full"),
-        (1, "purses"),
-        (4, "purses"),
-        (1, "washups"),
-        (2, "washups"),
-        (1, "leftovers"),
-    ] {
-        let feed = feeds::feed(seed, kind).expect("a kind that exists");
-        let (name, limits) = (format!("{kind} {seed}"), MARKET);
-        chosen.push(Chosen { name, limits, feed, example: false });
+impl Damage {
+    /// The damaged output; nothing if there was nothing to damage.
+    fn made(&self, right: &[u8]) -> Option<Vec<u8>> {
+        let text = std::str::from_utf8(right).expect("text");
+        let words = |line: &str| line.split(' ').map(String::from).collect();
+        let mut lines: Vec<Line> = text.split('\n').map(words).collect();
+        let at = (0..lines.len()).rfind(|&at| (self.fits)(&lines, at))?;
+        (self.change)(&mut lines, at);
+        let lines: Vec<String> = lines.iter().map(|words| words.join(" ")).collect();
+        Some(lines.join("\n").into_bytes())
     }
-    for seed in [1, 2] {
-        let feed = feeds::feed_within(DEMONSTRATION, seed, "full").expect("a kind that exists");
-        let (name, limits) = (format!("full {seed} of a demonstration"), DEMONSTRATION);
-        chosen.push(Chosen { name, limits, feed, example: false });
-    }
-    chosen
 }
 
-/// Damages listings; true if the right ones stand and each damage was made.
-fn damage_listings(told: &mut Told) -> bool {
-    let mut right_stands = true;
-    let mut used = [0; OF_LISTING.len()];
-    for Chosen { name, limits, feed, example } in chosen_feeds() {
-        let right = listing_within(limits, &feed);
-        right_stands &= judge_listing(limits, &feed, &right, &mut ()).is_ok();
-        for (place, damage) in OF_LISTING.iter().enumerate() {
-            let Some(found) = damaged(&right, damage) else {
+/// What an input is put to: a listing in a book of some limits, an example's, which demand 3 judges
+/// alone too, or a trial.
+enum Put {
+    Listing(Limits),
+    Example(Limits),
+    Trial,
+}
+
+impl Put {
+    fn output(&self, input: &[u8]) -> Vec<u8> {
+        match *self {
+            Put::Listing(limits) | Put::Example(limits) => listing_within(limits, input),
+            Put::Trial => trial::expected(input),
+        }
+    }
+
+    fn judge(&self, input: &[u8], found: &[u8]) -> Option<String> {
+        match *self {
+            Put::Listing(limits) | Put::Example(limits) => {
+                judge_listing(limits, input, found, &mut ()).err()
+            }
+            Put::Trial => judge_trial(input, found, &mut ()).err(),
+        }
+    }
+}
+
+/// Damages right outputs; true if they stand and each damage was made.
+fn damage_all(told: &mut Told, damages: &[Damage], inputs: Vec<(Named, Put)>) -> bool {
+    let (mut right_stands, mut made) = (true, vec![0; damages.len()]);
+    for ((name, input), put) in inputs {
+        let right = put.output(&input);
+        right_stands &= put.judge(&input, &right).is_none();
+        for (damage, made) in damages.iter().zip(&mut made) {
+            let Some(found) = damage.made(&right) else {
                 continue;
             };
-            used[place] += 1;
-            let name = format!("listing of {name}: {}", damage.name);
-            told.take(&name, judge_listing(limits, &feed, &found, &mut ()).err());
-            if damage.by_demand_3 && example {
-                told.take(
-                    &format!("{name}, by demand 3"),
-                    demand3::check_within(limits, &feed, &found).err(),
-                );
-            }
-        }
-        for (what, found) in ends_damaged(&right) {
-            let judged = judge_listing(limits, &feed, &found, &mut ()).err();
-            told.take(&format!("listing of {name}: {what}"), judged);
-        }
-    }
-    right_stands && used.iter().all(|&count| count > 0)
-}
-
-/// The last end of line lost, and a line too many.
-fn ends_damaged(right: &[u8]) -> [(&'static str, Vec<u8>); 2] {
-    let shorter = right[..right.len() - 1].to_vec();
-    [("the last end of line lost", shorter), ("a line too many", [right, b"\n"].concat())]
-}
-
-/// Damages what trials print; true as for listings.
-fn damage_trials(told: &mut Told) -> bool {
-    let mut right_stands = true;
-    let mut used = [0; OF_TRIAL.len()];
-    let mut chosen: Vec<Named> =
-        (0..6).map(|seed| (format!("seed {seed}"), trials::trial(seed))).collect();
-    let of_groups =
-        |seed| (format!("of groups seed {seed}"), trials::groups::trial_of_groups(seed));
-    chosen.extend((0..3).map(of_groups));
-    for request in ['c', 'e', 'f', 'g'] {
-        chosen.extend(trials::of(request).into_iter().take(3));
-    }
-    chosen.extend(
-        pairs::pairs().into_iter().take(6).map(|pair| (format!("pair of {}", pair.of), pair.both)),
-    );
-    for (name, calls) in chosen {
-        let right = trial::expected(&calls);
-        right_stands &= judge_trial(&calls, &right, &mut ()).is_ok();
-        for (place, damage) in OF_TRIAL.iter().enumerate() {
-            if let Some(found) = damaged(&right, damage) {
-                used[place] += 1;
-                let name = format!("trial {name}: {}", damage.name);
-                told.take(&name, judge_trial(&calls, &found, &mut ()).err());
+            *made += 1;
+            let name = format!("{name}: {}", damage.name);
+            told.take(&name, put.judge(&input, &found));
+            if let (Put::Example(limits), true) = (&put, damage.by_demand_3) {
+                let judged = demand3::check_within(*limits, &input, &found);
+                told.take(&format!("{name}, by demand 3"), judged.err());
             }
         }
     }
-    right_stands && used.iter().all(|&count| count > 0)
+    right_stands && made.iter().all(|&count| count > 0)
+}
+
+/// Examples, and feeds whose last months were settled and paid; some of each in a demonstration book.
+fn listings() -> Vec<(Named, Put)> {
+    let of_market = ["month-a", "purse", "washup"].map(|name| (name, MARKET));
+    let of_class = ["class", "class-limits"].map(|name| (name, DEMONSTRATION));
+    let examples = of_market.into_iter().chain(of_class).map(|(name, limits)| {
+        let feed = examples::example(name).expect("a name that exists");
+        ((format!("listing of {name}"), feed), Put::Example(limits))
+    });
+    let few = [(2, "few"), (5, "hundreds"), (3, "millions"), (1, "wide"), (1, "full")];
+    let of_requests = [(1, "purses"), (4, "purses"), (1, "washups"), (2, "washups")];
+    let of_market = few.into_iter().chain(of_requests).chain([(1, "leftovers")]);
+    let of_market = of_market.map(|chosen| (MARKET, "", chosen));
+    let of_class = [1, 2].map(|seed| (DEMONSTRATION, " of a demonstration", (seed, "full")));
+    let from_seeds = of_market.chain(of_class).map(|(limits, of, (seed, kind))| {
+        let feed = feeds::feed_within(limits, seed, kind).expect("a kind that exists");
+        ((format!("listing of {kind} {seed}{of}"), feed), Put::Listing(limits))
+    });
+    examples.chain(from_seeds).collect()
+}
+
+fn trials() -> Vec<(Named, Put)> {
+    let from_seeds = (0..6).map(|seed| (format!("seed {seed}"), trials::trial(seed)));
+    let of_groups = (0..3)
+        .map(|seed| (format!("of groups seed {seed}"), trials::groups::trial_of_groups(seed)));
+    let pairs = pairs::pairs().into_iter().take(6);
+    let all = from_seeds.chain(of_groups);
+    let requests = ['c', 'e', 'f', 'g'].into_iter();
+    let all = all.chain(requests.flat_map(|request| trials::of(request).into_iter().take(3)));
+    let all = all.chain(pairs.map(|pair| (format!("pair of {}", pair.of), pair.both)));
+    all.map(|(name, calls)| ((format!("trial {name}"), calls), Put::Trial)).collect()
 }
 
 /// Damages listings and trials; true only if each damage was made and told, and nothing right was.
 pub fn damage(details: bool) -> bool {
     let mut told = Told::new("damaged outputs", details);
-    let (listings, trials) = (damage_listings(&mut told), damage_trials(&mut told));
-    if !(listings && trials) {
+    let listings = damage_all(&mut told, &OF_LISTING, listings());
+    if !(damage_all(&mut told, &OF_TRIAL, trials()) && listings) {
         told.part.problem("a right output was told, or a damage was never made");
     }
     told.end()
