@@ -1,8 +1,8 @@
 //! The words of 02, c, over many feeds: what is drawn is a receipt before the settle entry.
 
-use crate::generate::feeds;
+use super::{hold, Other};
 use reckoning::rules::book::{Answer, Book};
-use reckoning::rules::codec::{self, Entry, PURSE, SETTLE};
+use reckoning::rules::codec::{Entry, PURSE, SETTLE};
 use reckoning::rules::purse::MOST_PURSE;
 
 /// A book whose purses are kept beside it. What a settle entry draws comes as receipts right before
@@ -14,12 +14,7 @@ struct ByReceipts {
     barred: u64,
 }
 
-impl ByReceipts {
-    fn new(n: u64) -> ByReceipts {
-        let book = Book::alone(n);
-        ByReceipts { purses: vec![0; book.n], book, drawn: 0, barred: 0 }
-    }
-
+impl Other for ByReceipts {
     fn apply(&mut self, entry: &Entry, words: &mut [u64]) -> Answer {
         if entry.kind == PURSE {
             return self.take_purse_entry(entry, words);
@@ -30,6 +25,12 @@ impl ByReceipts {
         self.book.apply(entry, words)
     }
 
+    fn held(&self) -> u128 {
+        self.book.held() + self.purses.iter().map(|&cents| u128::from(cents)).sum::<u128>()
+    }
+}
+
+impl ByReceipts {
     fn take_purse_entry(&mut self, entry: &Entry, words: &mut [u64]) -> Answer {
         let purse = self.purses.get_mut(usize::from(entry.participant));
         let number = match purse {
@@ -61,36 +62,14 @@ impl ByReceipts {
             number => panic!("{receipt:?} was answered with {number}"),
         }
     }
-
-    fn held(&self) -> u128 {
-        self.book.held() + self.purses.iter().map(|&cents| u128::from(cents)).sum::<u128>()
-    }
-}
-
-/// Every answer, payout word, number of rounds and the cents held of a feed, both ways; how often
-/// purses were drawn on, and payers barred.
-fn hold(feed: &[u8]) -> (u64, u64) {
-    let n = feed[0].into();
-    let (mut book, mut by_receipts) = (Book::alone(n), ByReceipts::new(n));
-    let mut place = 1;
-    while let Ok((entry, next)) = codec::read(feed, place) {
-        let (mut one, mut other) = (vec![9; book.n], vec![9; book.n]);
-        let answers = (book.apply(&entry, &mut one), by_receipts.apply(&entry, &mut other));
-        assert_eq!(answers.0, answers.1, "{entry:?}");
-        assert_eq!((one, book.held()), (other, by_receipts.held()), "{entry:?}");
-        place = next;
-    }
-    (by_receipts.drawn, by_receipts.barred)
 }
 
 #[test]
 fn what_is_drawn_is_a_receipt_before_the_settle_entry() {
-    let (mut drawn, mut barred) = (0, 0);
-    let purses = (0..120).map(|seed| (seed, "purses"));
-    for (seed, kind) in purses.chain((0..10).flat_map(|seed| [(seed, "wide"), (seed, "full")])) {
-        let counts = hold(&feeds::feed(seed, kind).unwrap());
-        drawn += counts.0;
-        barred += counts.1;
-    }
+    let by_receipts =
+        |book: Book| ByReceipts { purses: vec![0; book.n], book, drawn: 0, barred: 0 };
+    let books = hold("purses", ["wide", "full"], by_receipts);
+    let drawn: u64 = books.iter().map(|book| book.drawn).sum();
+    let barred: u64 = books.iter().map(|book| book.barred).sum();
     assert!(drawn > 3_000 && barred > 100, "{drawn} {barred}");
 }

@@ -1,13 +1,14 @@
 //! The words of 02, e, over many feeds and numbers: a washup is an amount of the difference, or
 //! nothing; and there and back moves both sides of the participant equally.
 
+use super::{hold, Other};
 use crate::generate::aim::Scale;
-use crate::generate::feeds;
 use crate::generate::quantities;
 use crate::generate::random::Random;
 use reckoning::rules::book::{Answer, Book};
-use reckoning::rules::codec::{self, Entry, MOST_CENTS, WASHUP};
+use reckoning::rules::codec::{Entry, MOST_CENTS, WASHUP};
 use reckoning::rules::month::energy_cents;
+use reckoning::rules::refusals::NUMBERS;
 use reckoning::rules::washup;
 
 /// The 24 numbers that an earlier period may have, but for those below 0.
@@ -37,41 +38,35 @@ fn by_amount(book: &mut Book, entry: &Entry, words: &mut [u64]) -> Answer {
     book.apply(&amount(cents.unsigned_abs()), words)
 }
 
-/// Every answer, payout word, number of rounds and the cents held of a feed, both ways; how often a
-/// washup was answered 0, 11 and 16.
-fn hold(feed: &[u8]) -> [u64; 3] {
-    let (mut book, mut other) = (Book::alone(feed[0].into()), Book::alone(feed[0].into()));
-    let (mut place, mut counts) = (1, [0; 3]);
-    while let Ok((entry, next)) = codec::read(feed, place) {
-        let (mut one, mut two) = (vec![9; book.n], vec![9; book.n]);
-        let answer = book.apply(&entry, &mut one);
-        let by_amount = match entry.kind {
-            WASHUP => by_amount(&mut other, &entry, &mut two),
-            _ => other.apply(&entry, &mut two),
-        };
-        assert_eq!(answer, by_amount, "{entry:?}");
-        assert_eq!((one, book.held()), (two, other.held()), "{entry:?}");
-        for (count, number) in counts.iter_mut().zip([0, 11, 16]) {
-            *count += u64::from((entry.kind, answer.number) == (WASHUP, number));
+/// Such a book, and how often washups were answered with each number.
+struct ByAmounts {
+    book: Book,
+    answers: [u64; NUMBERS],
+}
+
+impl Other for ByAmounts {
+    fn apply(&mut self, entry: &Entry, words: &mut [u64]) -> Answer {
+        if entry.kind != WASHUP {
+            return self.book.apply(entry, words);
         }
-        place = next;
+        let answer = by_amount(&mut self.book, entry, words);
+        self.answers[usize::from(answer.number)] += 1;
+        answer
     }
-    counts
+
+    fn held(&self) -> u128 {
+        self.book.held()
+    }
 }
 
 #[test]
 fn a_washup_is_an_amount_of_the_difference() {
-    let mut counts = [0; 3];
-    let washups = (0..120).map(|seed| (seed, "washups"));
-    for (seed, kind) in washups.chain((0..10).flat_map(|seed| [(seed, "wide"), (seed, "highest")]))
-    {
-        let found = hold(&feeds::feed(seed, kind).unwrap());
-        counts.iter_mut().zip(found).for_each(|(count, more)| *count += more);
+    let by_amounts = |book| ByAmounts { book, answers: [0; NUMBERS] };
+    let books = hold("washups", ["wide", "highest"], by_amounts);
+    for (number, least) in [(0, 5_000), (11, 200), (16, 300)] {
+        let count: u64 = books.iter().map(|book| book.answers[number]).sum();
+        assert!(count > least, "{number}: {count}");
     }
-    assert!(
-        counts.iter().zip([5_000, 200, 300]).all(|(&count, least)| count > least),
-        "{counts:?}"
-    );
 }
 
 /// A book with period 9, in which each side of both participants has some cents, or nearly the bound.
