@@ -4,7 +4,7 @@ use super::inputs::{file, run_on_packets};
 use super::{entry_ends, start_of_long, Run, BLOCK};
 use crate::judge::{first_difference, judge_listing};
 use crate::report::{grouped, Part};
-use crate::workers;
+use crate::workers::judge_each;
 use reckoning::programs::listing::listing;
 use reckoning::rules::codec::LONGEST_ENTRY;
 use reckoning::rules::limits::MARKET;
@@ -78,8 +78,7 @@ impl Cuts {
     /// Judges a program where the feed, as a file, ends at a place.
     fn judge_ended(&self, place: usize, run: &impl Run) -> Result<(), String> {
         let feed = &self.feed[..place];
-        let input = file(feed).map_err(|error| error.to_string())?;
-        let found = run(input.into(), None)?.without_errors()?;
+        let found = run(file(feed)?.into(), None)?.without_errors()?;
         judge_listing(MARKET, feed, &found, &mut ()).map(|_| ())
     }
 
@@ -103,27 +102,21 @@ impl Cuts {
 
 /// Holds a program to the reckoning over feeds cut about block ends; what was covered.
 pub fn block_ends(part: &mut Part, cuts: &Cuts, run: &impl Run) -> String {
-    let ended = workers::for_each(&cuts.places, |&place| {
-        let judged = cuts.judge_ended(place, run);
-        part.done();
-        judged
-    });
-    for (place, judged) in cuts.places.iter().zip(&ended) {
-        part.take(&format!("feed long seed {SEED} ended after byte {place}"), judged.clone());
+    let judge = |&place: &usize| cuts.judge_ended(place, run);
+    for (place, what) in judge_each(part, &cuts.places, judge, |()| ()) {
+        part.problem(&format!("feed long seed {SEED} ended after byte {place}: {what}"));
     }
     let (reckoned, mut kept) = (listing(&cuts.feed), BTreeSet::new());
     let places = [&cuts.places[..], &cuts.first_reads()].concat();
-    let read = workers::for_each(&places, |&place| {
-        let judged = cuts.judge_read(place, &reckoned, run);
-        part.done();
-        judged
-    });
-    for (place, judged) in places.iter().zip(read) {
-        let name = format!("feed long seed {SEED} with a read up to byte {place}");
-        kept.extend(part.take(&name, judged).unwrap_or_default());
+    let judge = |&place: &usize| cuts.judge_read(place, &reckoned, run);
+    for (place, what) in judge_each(part, &places, judge, |parts| kept.extend(parts)) {
+        part.problem(&format!("feed long seed {SEED} with a read up to byte {place}: {what}"));
     }
     let ends = cuts.block_ends.len();
     part.require_that(ends >= 4, "block ends");
     part.require_that(kept.len() == LONGEST_ENTRY, "lengths of an entry's part at a block's end");
-    format!("{} feeds cut about {ends} block ends", grouped((ended.len() + places.len()) as u64))
+    format!(
+        "{} feeds cut about {ends} block ends",
+        grouped((cuts.places.len() + places.len()) as u64)
+    )
 }

@@ -20,13 +20,17 @@ extern "C" {
     fn memfd_create(name: *const c_char, flags: c_uint) -> c_int;
 }
 
+pub fn told(error: io::Error) -> String {
+    error.to_string()
+}
+
 /// Two sockets that keep packets apart: a read gives the bytes of one write, and no others.
-pub fn packet_sockets() -> io::Result<(UnixStream, UnixStream)> {
+pub fn packet_sockets() -> Result<(UnixStream, UnixStream), String> {
     let mut sockets = [-1; 2];
     let kind = SOCK_SEQPACKET | SOCK_CLOEXEC;
     // SAFETY: there is room for the two numbers that it writes.
     if unsafe { socketpair(AF_UNIX, kind, 0, sockets.as_mut_ptr()) } != 0 {
-        return Err(io::Error::last_os_error());
+        return Err(told(io::Error::last_os_error()));
     }
     // SAFETY: both were just opened, and nothing else has them.
     let [one, other] = sockets.map(|socket| unsafe { OwnedFd::from_raw_fd(socket) });
@@ -34,31 +38,24 @@ pub fn packet_sockets() -> io::Result<(UnixStream, UnixStream)> {
 }
 
 /// A file in memory, read from its first byte on. A read gives all bytes that there is room for.
-pub fn file(bytes: &[u8]) -> io::Result<File> {
+pub fn file(bytes: &[u8]) -> Result<File, String> {
     // SAFETY: the name is text that ends with a zero byte.
     let number = unsafe { memfd_create(c"feed".as_ptr(), MFD_CLOEXEC) };
     if number < 0 {
-        return Err(io::Error::last_os_error());
+        return Err(told(io::Error::last_os_error()));
     }
     // SAFETY: it was just opened, and nothing else has it.
     let mut file = unsafe { File::from_raw_fd(number) };
-    file.write_all(bytes)?;
-    file.rewind()?;
+    file.write_all(bytes).and_then(|()| file.rewind()).map_err(told)?;
     Ok(file)
 }
 
 /// Writes a feed in packets up to the ends given; how many could be written.
 pub fn write_packets(mut to: &UnixStream, feed: &[u8], ends: &[usize]) -> u64 {
-    let (mut written, mut at) = (0, 0);
-    for &end in ends {
-        // A program that stopped reading is told by what it prints.
-        if to.write_all(&feed[at..end]).is_err() {
-            break;
-        }
-        written += 1;
-        at = end;
-    }
-    written
+    let starts = [0].into_iter().chain(ends.iter().copied());
+    // A program that stopped reading is told by what it prints.
+    let written = |&(start, &end): &(usize, &usize)| to.write_all(&feed[start..end]).is_ok();
+    starts.zip(ends).take_while(written).count() as u64
 }
 
 /// What a program prints for a feed in packets up to the ends given, and how many it was handed.
@@ -67,7 +64,7 @@ pub fn run_on_packets(
     feed: &[u8],
     ends: &[usize],
 ) -> Result<(Printed, u64), String> {
-    let (input, ours) = packet_sockets().map_err(|error| error.to_string())?;
+    let (input, ours) = packet_sockets()?;
     thread::scope(|scope| {
         let writer = scope.spawn(move || write_packets(&ours, feed, ends));
         let printed = run(input.into(), None);

@@ -3,12 +3,9 @@
 use super::failures::{NOT_READ, NOT_WRITTEN};
 use super::{Run, BLOCK};
 use crate::compare::program::Printed;
-use reckoning::programs::listing::{listing, print_entry};
-use reckoning::rules::book::Book;
+use reckoning::programs::listing::listing_within;
 use reckoning::rules::codec;
-use reckoning::rules::limits::{Limits, MARKET};
-use reckoning::rules::making::Making;
-use reckoning::rules::refusals::{ACCEPTED, TOO_FEW_BYTES};
+use reckoning::rules::limits::Limits;
 use std::fs::File;
 use std::io::{Read, Write};
 use std::os::fd::OwnedFd;
@@ -34,117 +31,89 @@ pub enum Wrong {
     ReadsOn,
 }
 
-struct StandIn<W: Write> {
+struct StandIn {
     /// Those of its book.
     limits: Limits,
     wrong: Wrong,
-    out: W,
+    /// The standard output, if one is given.
+    out: Option<File>,
     /// Whether a write failed.
     lost: bool,
-    book: Option<Book>,
-    number: u64,
-    /// The bytes of an entry's part.
-    part: Vec<u8>,
+    printed: Vec<u8>,
+    /// What was read of the feed, and how much of it is n and whole entries.
+    feed: Vec<u8>,
+    whole: usize,
 }
 
-impl<W: Write> StandIn<W> {
-    /// Whether the listing goes on after a text.
-    fn write(&mut self, text: &[u8]) -> bool {
-        self.lost |= self.out.write_all(text).is_err();
+impl StandIn {
+    /// Prints what is new in the listing of the first bytes; whether the stand-in goes on.
+    fn print(&mut self, count: usize) -> bool {
+        let text = listing_within(self.limits, &self.feed[..count]);
+        if let Some(out) = &mut self.out {
+            self.lost |= out.write_all(&text[self.printed.len()..]).is_err();
+        }
+        self.printed = text;
         !self.lost || self.wrong == Wrong::ReadsOn
     }
 
-    fn book_of(&self, n: u8) -> Book {
-        Book::make(&Making::within(self.limits, n.into())).0
+    fn take(&mut self, bytes: &[u8]) {
+        self.feed.extend(bytes);
+        self.whole = self.whole.max(self.feed.len().min(1));
+        while let Ok((_, next)) = codec::read(&self.feed, self.whole as u64) {
+            self.whole = next as usize;
+        }
     }
 
-    /// The lines of the whole entries that are at hand.
-    fn entries(&mut self) -> Vec<u8> {
-        let (mut text, mut place) = (Vec::new(), 0);
-        if self.book.is_none() {
-            self.book = self.part.first().map(|&n| self.book_of(n));
-            place = 1;
-        }
-        let book = self.book.as_mut().expect("n was read");
-        while let Ok((entry, next)) = codec::read(&self.part, place) {
-            self.number += 1;
-            let mut words = vec![0; book.n];
-            let answer = book.apply(&entry, &mut words).number;
-            let payouts = if answer == ACCEPTED { &words[..] } else { &[] };
-            print_entry(&mut text, self.number, answer, payouts, book.held()).unwrap();
-            place = next;
-        }
-        self.part.drain(..place as usize);
-        text
-    }
-
-    /// Lists an input; whether a read of it failed.
-    fn list(&mut self, mut input: File) -> bool {
+    /// Reads an input; whether a read of it failed.
+    fn read(&mut self, mut input: File) -> bool {
         let (mut reads, mut skip) = (0, 0);
         let mut block = vec![0; BLOCK];
         while self.wrong != Wrong::EndsAfterReads(reads) {
-            let room = BLOCK - self.part.len();
-            let Ok(count) = input.read(&mut block[..room]) else {
-                return true;
+            let room = BLOCK - (self.feed.len() - self.whole);
+            let count = match input.read(&mut block[..room]) {
+                Err(_) => return true,
+                Ok(0) => return false,
+                Ok(count) => count,
             };
-            if count == 0 {
-                return false;
-            }
             reads += 1;
-            self.part.extend(&block[skip..count]);
-            let text = self.entries();
-            if !self.write(&text) {
-                return false;
-            }
+            self.take(&block[skip..count]);
             let full = count == room;
-            let skips = [Wrong::SkipsAtBlockEnd, Wrong::SkipsAfterPart(self.part.len())];
+            let skips =
+                [Wrong::SkipsAtBlockEnd, Wrong::SkipsAfterPart(self.feed.len() - self.whole)];
             skip = usize::from(full && skips.contains(&self.wrong));
-            if !full && self.wrong == Wrong::EndsAtShortRead {
+            // Where no output is given, all is printed at the end.
+            let goes_on = self.out.is_none() || self.print(self.whole);
+            if !goes_on || (!full && self.wrong == Wrong::EndsAtShortRead) {
                 return false;
             }
         }
         false
     }
 
-    /// Prints the listing of an input; what is said on standard error.
-    fn print(mut self, input: File) -> &'static [u8] {
-        let goes_on = self.write(&listing(&[]));
-        let failed = goes_on && self.list(input);
-        if !self.part.is_empty() && (!failed || self.wrong == Wrong::ListsPart) {
-            let held = self.book.as_ref().map_or(0, Book::held);
-            let mut text = Vec::new();
-            print_entry(&mut text, self.number + 1, TOO_FEW_BYTES, &[], held).unwrap();
-            self.write(&text);
+    /// Prints the listing of an input.
+    fn list(mut self, input: File) -> Printed {
+        let failed = self.print(0) && self.read(input);
+        let part = !failed || self.wrong == Wrong::ListsPart;
+        if !self.lost {
+            self.print(if part { self.feed.len() } else { self.whole });
         }
-        match self.wrong {
+        let errors: &[u8] = match self.wrong {
             Wrong::SilentOnOutput if self.lost => b"",
             Wrong::SilentOnInput if failed => b"",
             _ if self.lost => NOT_WRITTEN,
             _ if failed => NOT_READ,
             Wrong::SaysMore => b"listing: done\n",
             _ => b"",
-        }
+        };
+        Printed { output: self.printed, errors: errors.to_vec() }
     }
 }
 
-fn print((limits, wrong): (Limits, Wrong), input: OwnedFd, out: impl Write) -> Vec<u8> {
-    let (book, part) = (None, Vec::new());
-    let stand_in = StandIn { limits, wrong, out, lost: false, book, number: 0, part };
-    stand_in.print(input.into()).to_vec()
-}
-
-pub fn stand_in(wrong: Wrong) -> impl Run {
-    stand_in_within(MARKET, wrong)
-}
-
-/// The same with a book of some limits.
-pub fn stand_in_within(limits: Limits, wrong: Wrong) -> impl Run {
-    move |input, output: Option<OwnedFd>| {
-        let mut printed = Printed::default();
-        printed.errors = match output {
-            Some(output) => print((limits, wrong), input, File::from(output)),
-            None => print((limits, wrong), input, &mut printed.output),
-        };
-        Ok(printed)
+/// A listing with a book of some limits.
+pub fn stand_in(limits: Limits, wrong: Wrong) -> impl Run {
+    move |input: OwnedFd, output: Option<OwnedFd>| {
+        let (out, printed, feed) = (output.map(File::from), vec![], vec![]);
+        let stand_in = StandIn { limits, wrong, out, lost: false, printed, feed, whole: 0 };
+        Ok(stand_in.list(input.into()))
     }
 }
