@@ -8,6 +8,7 @@ use crate::generate::aim::{Aim, Manner, Scale};
 use crate::generate::groupings;
 use crate::generate::makings::limits::any_limits;
 use crate::generate::random::Random;
+use crate::judge::first_difference;
 use reckoning::programs::calls;
 use reckoning::programs::observer::Applied;
 use reckoning::rules::book::{Book, Make};
@@ -123,13 +124,6 @@ impl List {
     }
 }
 
-/// What stands in a line before its payout words: `apply`, the answer, the rounds and the cents held.
-const BEFORE_WORDS: usize = 4;
-
-fn words(line: &str) -> Vec<&str> {
-    line.split(' ').skip(BEFORE_WORDS).collect()
-}
-
 /// Whether a program accepted a list throughout.
 pub fn accepted(printed: &[u8]) -> Result<(), String> {
     let text = String::from_utf8_lossy(printed);
@@ -143,21 +137,20 @@ pub fn accepted(printed: &[u8]) -> Result<(), String> {
     }
 }
 
+/// The payout words of each entry, which stand behind `apply`, the answer, the rounds and the cents
+/// held. A line for the book comes first.
+fn payouts(printed: &[u8]) -> Vec<u8> {
+    let text = String::from_utf8_lossy(printed);
+    let words = |line: &str| line.split(' ').skip(4).collect::<Vec<_>>().join(" ") + "\n";
+    text.lines().skip(1).map(words).collect::<String>().into_bytes()
+}
+
 /// Compares the payout words that a program printed for a list in two books, entry by entry.
 pub fn same(in_its_book: &[u8], in_another: &[u8]) -> Result<(), String> {
-    let [small, large] = [in_its_book, in_another].map(String::from_utf8_lossy);
-    // A line for the book comes first.
-    let (mut small, mut large) = (small.lines().skip(1), large.lines().skip(1));
-    for entry in 1.. {
-        match (small.next(), large.next()) {
-            (None, None) => break,
-            (Some(line), Some(other)) if words(line) == words(other) => (),
-            (line, other) => {
-                return Err(format!("entry {entry}, other payouts: {line:?} and {other:?}"));
-            }
-        }
+    match first_difference(&payouts(in_its_book), &payouts(in_another)) {
+        Some(difference) => Err(format!("other payouts: {difference}")),
+        None => Ok(()),
     }
-    Ok(())
 }
 
 /// Whether a list that some lines show to be accepted pays other cents in another book, by the lines

@@ -78,6 +78,11 @@ fn add(lines: &mut [Line], at: usize, place: usize, more: i64) {
     lines[at][place] = (number + more).to_string();
 }
 
+/// Adds to the number at a place.
+fn raise<const PLACE: usize>(lines: &mut Vec<Line>, at: usize) {
+    add(lines, at, PLACE, 1);
+}
+
 fn lose(lines: &mut Vec<Line>, at: usize) {
     lines.remove(at);
 }
@@ -98,8 +103,8 @@ fn move_a_cent(lines: &mut [Line], from: (usize, usize), to: (usize, usize)) {
 }
 
 const OF_LISTING: [Damage; 18] = [
-    both("a payout changed by a cent", is_pay, |l, at| add(l, at, 2, 1)),
-    both("a payout given to the next participant", is_pay, |l, at| add(l, at, 1, 1)),
+    both("a payout changed by a cent", is_pay, raise::<2>),
+    both("a payout given to the next participant", is_pay, raise::<1>),
     both(
         "two payouts swapped",
         |l, at| is_second_pay(l, at) && l[at - 1][2] != l[at][2],
@@ -110,34 +115,30 @@ const OF_LISTING: [Damage; 18] = [
     }),
     both("an entry's line lost", is_entry, lose),
     both("a payout's line lost", is_pay, lose),
-    both("held changed", is_entry, |l, at| add(l, at, 3, 1)),
-    both("paid changed", is_entry, |l, at| add(l, at, 2, 1)),
+    both("held changed", is_entry, raise::<3>),
+    both("paid changed", is_entry, raise::<2>),
     by_text(
         "an accepted entry refused",
         |l, at| answered(l, at, &["0"]) && l[at][2] == "0" && l[at][3] != "0",
-        |l, at| add(l, at, 1, 1),
+        raise::<1>,
     ),
-    by_text(
-        "a refusal changed to another",
-        |l, at| answered(l, at, &["8"]),
-        |l, at| add(l, at, 1, 1),
-    ),
+    by_text("a refusal changed to another", |l, at| answered(l, at, &["8"]), raise::<1>),
     both("money that came in refused", holds_more, |l, at| add(l, at, 1, 15)),
     both("money that was refused accepted", |l, at| answered(l, at, &["13", "14", "15"]), accept),
     both("a washup that was refused accepted", |l, at| answered(l, at, &["16"]), accept),
     by_text("an opening that was refused with 7 accepted", |l, at| answered(l, at, &["7"]), accept),
-    both("an entry's number changed", is_entry, |l, at| add(l, at, 0, 1)),
+    both("an entry's number changed", is_entry, raise::<0>),
     both("the header lost", |_, at| at == 0, lose),
     by_text("the last end of line lost", |_, _| true, lose),
     by_text("a line too many", |_, _| true, |l, _| l.push(vec![String::new()])),
 ];
 
 const OF_TRIAL: [Damage; 9] = [
-    by_text("a book's answer changed", |l, at| has("book", l, at, 1), |l, at| add(l, at, 1, 1)),
-    by_text("an answer changed", |l, at| has("apply", l, at, 1), |l, at| add(l, at, 1, 1)),
-    by_text("the rounds changed", |l, at| has("apply", l, at, 2), |l, at| add(l, at, 2, 1)),
-    by_text("held changed", |l, at| has("apply", l, at, 3), |l, at| add(l, at, 3, 1)),
-    by_text("a payout word changed", |l, at| has("apply", l, at, 4), |l, at| add(l, at, 4, 1)),
+    by_text("a book's answer changed", |l, at| has("book", l, at, 1), raise::<1>),
+    by_text("an answer changed", |l, at| has("apply", l, at, 1), raise::<1>),
+    by_text("the rounds changed", |l, at| has("apply", l, at, 2), raise::<2>),
+    by_text("held changed", |l, at| has("apply", l, at, 3), raise::<3>),
+    by_text("a payout word changed", |l, at| has("apply", l, at, 4), raise::<4>),
     by_text(
         "a cent moved between two payout words",
         |l, at| paid_word(&l[at]).is_some(),
@@ -146,12 +147,8 @@ const OF_TRIAL: [Damage; 9] = [
             move_a_cent(l, (at, place), (at, place + 1));
         },
     ),
-    by_text(
-        "a field read changed",
-        |l, at| has("read", l, at, 4) && l[at][1] == "0",
-        |l, at| add(l, at, 4, 1),
-    ),
-    by_text("a lent byte changed", |l, at| has("write", l, at, 3), |l, at| add(l, at, 3, 1)),
+    by_text("a field read changed", |l, at| has("read", l, at, 4) && l[at][1] == "0", raise::<4>),
+    by_text("a lent byte changed", |l, at| has("write", l, at, 3), raise::<3>),
     by_text("a line lost", |l, at| at + 2 == l.len(), lose),
 ];
 
