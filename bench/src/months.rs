@@ -1,8 +1,7 @@
 //! Notice, settlement with rounds and a late receipt of whole months against the reckoning's own.
 
 use crate::batches::{timed, Times};
-use binding::exports;
-use binding::slices::{self, Rest, PLACES};
+use binding::arguments::{self, Arguments, Rest, PLACES};
 use comparison::coverage::group_kinds::{Reserves, Shape};
 use comparison::coverage::leftovers::{By, Sight};
 use comparison::coverage::Seen;
@@ -19,67 +18,19 @@ const BATCH: usize = 10;
 /// How often all months are gone through.
 const PASSES: usize = 7;
 
-/// A month as ours takes it, and the slices that are written.
-struct Lent {
-    by: Vec<u64>,
-    to: Vec<u64>,
-    groups: Vec<u64>,
-    reserves: Vec<u64>,
-    received: Vec<u64>,
-    claims: Vec<u64>,
-    paid: Vec<u64>,
-    money: u64,
-    out: [Vec<u64>; 3],
-}
-
-fn lent(month: &Month) -> Lent {
-    Lent {
-        by: slices::row(&month.sums.by, Rest::Zero),
-        to: slices::tiers(&month.sums, Rest::Zero),
-        groups: slices::groups(&month.making, Rest::Zero),
-        reserves: slices::reserves(&month.making, Rest::Zero),
-        received: slices::row(&month.received, Rest::Zero),
-        claims: slices::row(&month.claim, Rest::Zero),
-        paid: slices::row(&month.paid, Rest::Zero),
-        money: month.late[0].money.try_into().expect("64 bits"),
-        out: [(); 3].map(|()| slices::lent()),
-    }
-}
-
-impl Lent {
-    fn notice(&mut self) -> bool {
-        let given = [&self.by[..], &self.to, &self.groups, &self.reserves];
-        let [a, b, _] = &mut self.out;
-        exports::notice(given, PLACES, [a, b])
-    }
-
-    /// The export takes no payable row, and reckons the notice too.
-    fn settle(&mut self) -> u64 {
-        let given = [&self.by[..], &self.to, &self.groups, &self.reserves];
-        let [a, b, c] = &mut self.out;
-        exports::settle(given, &self.received, PLACES, [a, b, c])
-    }
-
-    fn late(&mut self) -> bool {
-        let [a, _, _] = &mut self.out;
-        exports::late(&self.to, &self.claims, &self.paid, self.money, PLACES, a)
-    }
-
-    fn holds<const ROWS: usize>(&self, rows: [&[u128]; ROWS]) {
-        for (row, cells) in rows.iter().zip(&self.out) {
-            assert_eq!(slices::difference(row, cells), None);
+/// Asserts that all three exports come to what was reckoned.
+fn check(with: &mut Arguments, month: &Month) {
+    let holds = |with: &Arguments, rows: &[&[u128]]| {
+        for (row, cells) in rows.iter().zip(&with.written) {
+            assert_eq!(arguments::difference(row, cells), None);
         }
-    }
-
-    /// Asserts that all three come to what was reckoned.
-    fn check(&mut self, month: &Month) {
-        assert!(self.notice());
-        self.holds([&month.retention, &month.payable]);
-        assert_eq!(self.settle(), month.rounds);
-        self.holds([&month.paid, &month.claim, &month.arrears]);
-        assert!(self.late());
-        self.holds([&month.late[0].payments]);
-    }
+    };
+    assert!(with.notice());
+    holds(with, &[&month.retention, &month.payable]);
+    assert_eq!(with.settle(), month.rounds);
+    holds(with, &[&month.paid, &month.claim, &month.arrears]);
+    assert!(with.late());
+    holds(with, &[&month.late[0].payments]);
 }
 
 #[inline(never)]
@@ -87,7 +38,7 @@ fn notice(month: &Month) -> Notice {
     month::notice(&month.sums, &month.making)
 }
 
-/// With the notice, as the export has it.
+/// With the notice: the export takes no payable row, and reckons the notice too.
 #[inline(never)]
 fn settle(month: &Month) -> Settlement {
     month::settle(&month.sums, &month::notice(&month.sums, &month.making), &month.received)
@@ -102,8 +53,8 @@ fn late(month: &Month) -> Vec<u128> {
 fn compare<O, T>(
     name: &str,
     months: &[Month],
-    lent: &mut [Lent],
-    ours: impl Fn(&mut Lent) -> O,
+    lent: &mut [Arguments],
+    ours: impl Fn(&mut Arguments) -> O,
     theirs: impl Fn(&Month) -> T,
 ) {
     let mut times = Times::default();
@@ -126,10 +77,14 @@ fn month_in_groups(seed: u64) -> Month {
 }
 
 /// The first months that fit, as both take them; what ours comes to in each is asserted.
-fn checked(month: impl Fn(u64) -> Month, fits: impl Fn(&Month) -> bool) -> (Vec<Month>, Vec<Lent>) {
+fn checked(
+    month: impl Fn(u64) -> Month,
+    fits: impl Fn(&Month) -> bool,
+) -> (Vec<Month>, Vec<Arguments>) {
     let months: Vec<Month> = (0..).map(month).filter(fits).take(MONTHS).collect();
-    let mut rows: Vec<Lent> = months.iter().map(lent).collect();
-    rows.iter_mut().zip(&months).for_each(|(row, month)| row.check(month));
+    let mut rows: Vec<Arguments> =
+        months.iter().map(|month| Arguments::of(month, Rest::Zero)).collect();
+    rows.iter_mut().zip(&months).for_each(|(row, month)| check(row, month));
     (months, rows)
 }
 
@@ -155,10 +110,10 @@ pub fn measure() {
     let with_rounds = |month: &Month| month.rounds > 0 && comes_late(month);
     let (months, mut rows) = checked(|seed| months::month_of(seed, PLACES), with_rounds);
     print_leftovers(&months);
-    compare("notice", &months, &mut rows, Lent::notice, notice);
-    compare("notice and settlement with rounds", &months, &mut rows, Lent::settle, settle);
-    compare("late receipt", &months, &mut rows, Lent::late, late);
+    compare("notice", &months, &mut rows, Arguments::notice, notice);
+    compare("notice and settlement with rounds", &months, &mut rows, Arguments::settle, settle);
+    compare("late receipt", &months, &mut rows, Arguments::late, late);
     let (months, mut rows) = checked(month_in_groups, comes_late);
     let name = "notice, groups of random sizes and reserves";
-    compare(name, &months, &mut rows, Lent::notice, notice);
+    compare(name, &months, &mut rows, Arguments::notice, notice);
 }

@@ -1,5 +1,5 @@
-//! The exports of the clearing book's static library, and rows of cents as the slices that they take and
-//! write.
+//! The exports of the clearing book's static library, and the rows of a month as the slices that they
+//! take and write.
 
+pub mod arguments;
 pub mod exports;
-pub mod slices;

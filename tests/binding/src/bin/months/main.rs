@@ -6,7 +6,7 @@ mod proportions;
 mod refused;
 mod refused_groups;
 
-use binding::slices::Rest;
+use binding::arguments::Rest;
 use compare::Count;
 use comparison::coverage::Place;
 use comparison::generate::months;

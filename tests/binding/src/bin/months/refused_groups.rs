@@ -1,8 +1,8 @@
 //! Group numbers and reserves at each limit and just outside of it (02, a), and receipts up to
 //! what is payable in groups.
 
-use crate::refused::{Arguments, Case, BUT_LATE, LAST, NONE, SETTLEMENT};
-use binding::slices::{self, Rest, PLACES};
+use crate::refused::{of_month, Case, BUT_LATE, LAST, NONE, SETTLEMENT};
+use binding::arguments::{row, Arguments, Rest, PLACES};
 use comparison::coverage::group_kinds::{Reserves, Shape};
 use comparison::generate::groupings;
 use comparison::generate::months::{self, Month};
@@ -90,8 +90,8 @@ fn receipts_of(order: Ordering) -> [Arguments; 2] {
     let fits = |month: &Month| !month.late.is_empty() && payer(month, order).is_some();
     let month = (0..).map(month_in_pairs).find(fits).expect("there are many");
     let payer = payer(&month, order).expect("the month fits");
-    let payable = slices::row(&month.payable, Rest::Zero);
-    let all = Arguments::of(&month).but(|with| with.received.clone_from(&payable));
+    let payable = row(&month.payable, Rest::Zero);
+    let all = of_month(&month).but(|with| with.received.clone_from(&payable));
     let above = all.but(|with| with.received[payer] += 1);
     [all, above]
 }
