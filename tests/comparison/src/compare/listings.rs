@@ -66,7 +66,7 @@ pub fn judge(limits: Limits, path: &str, feed: &[u8]) -> Result<(Vec<u8>, Count,
 /// was compared.
 pub fn compare(name: &str, limits: Limits, path: &str, feeds: Vec<Input>, details: bool) -> bool {
     let (mut part, mut listed) = (Part::new(name, details), Listed::default());
-    let judge = |input: &Input| {
+    let judge = |input: &Input| -> Result<_, String> {
         let feed = input.bytes();
         let (_, count, seen) = judge(limits, path, &feed)?;
         Ok((feed.first().copied(), count, seen))

@@ -6,7 +6,7 @@ use crate::coverage::lists::Lists;
 use crate::coverage::{Seen, Watch};
 use crate::generate::aim::{Aim, Manner, Scale};
 use crate::generate::groupings;
-use crate::generate::makings::limits::any_limits;
+use crate::generate::makings::spoilt::any_limits;
 use crate::generate::random::Random;
 use crate::judge::first_difference;
 use reckoning::programs::calls;

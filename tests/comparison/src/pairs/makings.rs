@@ -1,8 +1,7 @@
 //! Pairs of refusals of makings (02, a and f), which check 4 and then 3, and of openings, which check 5, 6
 //! and then 7, at each period limit.
 
-use crate::generate::makings::groups::{with_group_outside, with_reserve_outside, Case};
-use crate::generate::makings::limits::{refused, with_3};
+use crate::generate::makings::{refused, with_3, with_group_outside, with_reserve_outside, Case};
 use crate::pairs::{pair, Pair, Row, N};
 use reckoning::programs::calls;
 use reckoning::rules::codec::Entry;

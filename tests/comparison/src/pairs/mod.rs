@@ -20,7 +20,7 @@ mod purses;
 mod tests;
 mod washups;
 
-use crate::generate::makings::groups::refused_books;
+use crate::generate::makings::refused_books;
 use reckoning::programs::calls;
 use reckoning::rules::codec::{Entry, MOST_CENTS};
 use reckoning::rules::month_a;

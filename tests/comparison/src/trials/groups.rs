@@ -4,7 +4,7 @@
 use crate::coverage::group_kinds::{Reserves, Shape};
 use crate::generate::call_maker::Maker;
 use crate::generate::groupings;
-use crate::generate::makings::groups as makings;
+use crate::generate::makings::spoilt;
 use crate::generate::random::Random;
 use crate::trials::months_of_rounds;
 use reckoning::programs::calls;
@@ -28,7 +28,7 @@ pub fn trial_of_groups(seed: u64) -> Vec<u8> {
         maker.month();
         maker.month();
         maker.any_entries(0, 60);
-        let refused = makings::any_refused(&mut maker.aim.random, &making);
+        let refused = spoilt::any_refused(&mut maker.aim.random, &making);
         maker.make(&refused);
         maker.any_entries(1, 8);
     }

@@ -3,8 +3,7 @@
 
 use crate::generate::call_maker::Maker;
 use crate::generate::groupings;
-use crate::generate::makings::groups as makings;
-use crate::generate::makings::limits::{any_limits, any_n, any_refused};
+use crate::generate::makings::spoilt::{any_limits, any_n, any_refused, any_refused_with_4};
 use reckoning::programs::calls;
 use reckoning::rules::codec::Entry;
 use reckoning::rules::limits::{Limits, DEMONSTRATION, MARKET, MOST_PARTICIPANTS, MOST_PERIODS};
@@ -68,8 +67,8 @@ impl Maker {
     /// Refused makings, and some entries to each.
     fn refused_makings(&mut self, right: &Making) {
         let random = &mut self.aim.random;
-        let by_limits = [any_refused(random, right), any_refused(random, right)];
-        let by_others = makings::any_refused(random, right);
+        let by_limits = [any_refused_with_4(random, right), any_refused_with_4(random, right)];
+        let by_others = any_refused(random, right);
         for refused in by_limits.into_iter().chain([by_others]) {
             self.make_limited(&refused);
             self.any_entries(0, 6);

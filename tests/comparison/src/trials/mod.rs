@@ -10,8 +10,7 @@ mod washups;
 pub use any_calls::trial;
 
 use crate::cases;
-use crate::generate::makings::groups::{self as makings, Case};
-use crate::generate::makings::limits as makings_of_limits;
+use crate::generate::makings::{self, Case};
 use crate::generate::random::Random;
 use crate::generate::rounds;
 use crate::Named;
@@ -53,12 +52,12 @@ pub fn of_every_sort() -> Vec<Named> {
 
 /// The makings by hand of a request, as trials.
 fn of_makings(request: char) -> Vec<Named> {
-    let (name, cases, trial): (&str, Vec<Case>, fn(&Case) -> Vec<u8>) = match request {
-        'a' => ("trial making", makings::cases(), Case::trial),
-        'f' => ("trial of limits, making", makings_of_limits::cases(), makings_of_limits::trial),
+    let (name, cases): (&str, Vec<Case>) = match request {
+        'a' => ("trial making", makings::of_groups()),
+        'f' => ("trial of limits, making", makings::of_limits()),
         _ => return Vec::new(),
     };
-    cases.iter().map(|case| (format!("{name} {}", case.name), trial(case))).collect()
+    cases.iter().map(|case| (format!("{name} {}", case.name), case.trial())).collect()
 }
 
 /// The trials of a request (02), by its letter: those by hand, then those from seeds.
