@@ -99,71 +99,25 @@ pub fn any(random: &mut Random, scale: Scale) -> Energy {
 #[cfg(test)]
 mod tests {
     use super::*;
-    use reckoning::rules::codec::Entry;
-    use reckoning::rules::month::{energy_cents, is_half};
+    use reckoning::rules::month::energy_cents;
 
-    fn drawn(draw: impl Fn(&mut Random) -> Energy) -> Vec<Energy> {
+    /// Of 100,000 so many are left of the amount.
+    fn left(&(quantity, price): &Energy) -> u64 {
+        u64::from(quantity) * u64::from(price) * 115 % 100_000
+    }
+
+    /// No comparison would tell: no sight is of what is next to a half, and those of a bound come of
+    /// cases by hand too.
+    #[test]
+    fn what_is_next_to_a_half_is_so_and_a_room_gets_its_half() {
         let mut random = Random::new(6);
-        (0..3_000).map(|_| draw(&mut random)).collect()
-    }
-
-    fn product(&(quantity, price): &Energy) -> u64 {
-        assert!(Entry::energy(1, 0, 0, quantity, price).in_values(), "{quantity} × {price}");
-        u64::from(quantity) * u64::from(price)
-    }
-
-    /// Above an even cent and above an odd one, up to the largest.
-    #[test]
-    fn halves_of_every_scale_are_halves_of_both_kinds() {
-        for scale in Scale::ALL {
-            let halves = drawn(|random| half(random, scale));
-            let products: Vec<u64> = halves.iter().map(product).collect();
-            assert!(products.iter().all(|product| product % 20_000 == 10_000));
-            let above_odd = |product: &&u64| *product * 115 / 100_000 % 2 == 1;
-            let up = products.iter().filter(above_odd).count();
-            assert!((500..2_500).contains(&up), "{scale:?}: {up}");
-            let largest = [(99_999_999, 9_990_000), (99_999_999, 9_970_000)];
-            let has_largest = largest.iter().all(|half| halves.contains(half));
-            assert_eq!(has_largest, scale == Scale::Bound);
+        for scale in Scale::ALL.into_iter().cycle().take(1_000) {
+            let next = next_to_half(&mut random, scale);
+            assert!([49_885, 50_115, 49_995, 50_005].contains(&left(&next)), "{scale:?}: {next:?}");
+            let room = u128::from(random.pick(&ROOMS));
+            let half = half_for(&mut random, room).expect("each room has a half");
+            let cents = energy_cents(half.0, half.1);
+            assert!(left(&half) == 50_000 && (cents == room || cents == room + 1), "{half:?}");
         }
-    }
-
-    /// Of amounts as near as they come, as many are below a half as above it.
-    #[test]
-    fn what_is_next_to_a_half_is_so_on_both_sides_of_it() {
-        for scale in Scale::ALL {
-            let all = drawn(|random| next_to_half(random, scale));
-            let rests: Vec<u64> = all.iter().map(|next| product(next) * 115 % 100_000).collect();
-            for rest in [49_885, 50_115, 49_995, 50_005] {
-                let count = rests.iter().filter(|&&found| found == rest).count();
-                assert!((650..850).contains(&count), "{scale:?}: {rest}: {count}");
-            }
-        }
-    }
-
-    /// A half is told by its amount: 50,000 of 100,000 are left of it.
-    #[test]
-    fn of_all_drawn_a_part_are_halves() {
-        for scale in Scale::ALL {
-            let all = drawn(|random| any(random, scale));
-            let by_amount = |energy: &Energy| product(energy) * 115 % 100_000 == 50_000;
-            assert!(all.iter().all(|&(q, p)| is_half(q, p) == by_amount(&(q, p))));
-            let halves = all.iter().filter(|energy| by_amount(energy)).count();
-            assert!((600..1_000).contains(&halves), "{scale:?}: {halves}");
-        }
-    }
-
-    #[test]
-    fn each_room_has_a_half_that_fits_or_is_a_cent_too_much() {
-        let mut random = Random::new(7);
-        for (room, cents) in [(11, 12), (12, 12), (33, 34), (34, 34)] {
-            assert!(ROOMS.contains(&room));
-            for _ in 0..50 {
-                let (quantity, price) = half_for(&mut random, room.into()).unwrap();
-                assert!(is_half(quantity, price));
-                assert_eq!(energy_cents(quantity, price), cents);
-            }
-        }
-        assert_eq!(half_for(&mut random, 35), None);
     }
 }

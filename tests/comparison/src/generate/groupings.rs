@@ -92,27 +92,3 @@ pub fn in_groups_or_alone(
         false => Making::within(limits, n),
     }
 }
-
-#[cfg(test)]
-mod tests {
-    use super::*;
-
-    /// All that is drawn is accepted. With participants enough most of it is what was asked for.
-    #[test]
-    fn what_is_drawn_is_told_apart() {
-        let mut random = Random::new(1);
-        for &shape in Shape::ALL {
-            for &reserves in Reserves::ALL {
-                let mut right = 0;
-                for turn in 0..200 {
-                    let n = if turn < 100 { turn % 64 + 1 } else { random.between(12, 60) };
-                    let making = making(&mut random, n, shape, reserves);
-                    assert_eq!(making.refusal(), None);
-                    let found = (Shape::of(making.numbers()), Reserves::of(&making));
-                    right += u64::from(turn >= 100 && found == (shape, reserves));
-                }
-                assert!(right > 70, "{shape:?} {reserves:?} {right}");
-            }
-        }
-    }
-}

@@ -186,15 +186,6 @@ pub fn month(seed: u64) -> Month {
 #[cfg(test)]
 mod tests {
     use super::*;
-    use crate::coverage::Place;
-
-    /// A part of the months that the exports are compared on.
-    #[test]
-    fn random_months_show_all_that_they_must() {
-        let mut seen = Seen::default();
-        (0..3_000).for_each(|seed| month(seed).show(&mut seen));
-        assert_eq!(seen.missing(Place::Months), [""; 0]);
-    }
 
     fn total(cents: &[u128]) -> u128 {
         cents.iter().sum()

@@ -111,33 +111,3 @@ fn late_receipts(random: &mut Random, book: &mut Book, period: u32, month: &mut 
         arrears = arrears_in(book);
     }
 }
-
-#[cfg(test)]
-mod tests {
-    use super::*;
-    use reckoning::rules::codec::SETTLE;
-
-    /// Every entry is accepted, each period leaves, and many rounds are run, also where purses are
-    /// drawn on.
-    #[test]
-    fn the_months_run_many_rounds() {
-        let (mut most, mut most_with_draws) = (0, 0);
-        for seed in 0..200 {
-            let mut random = Random::new(seed);
-            let n = random.between(4, 64);
-            let mut aimed = Book::alone(n);
-            let mut book = Book::alone(n);
-            for entry in month(&mut random, &mut aimed) {
-                let before = book.purses.clone();
-                let answer = book.apply(&entry, &mut [0; 64]);
-                assert_eq!(answer.number, 0, "seed {seed}: {entry:?}");
-                most = most.max(answer.rounds);
-                if entry.kind == SETTLE && before.iter().any(|&purse| purse > 0) {
-                    most_with_draws = most_with_draws.max(answer.rounds);
-                }
-            }
-            assert!(book.periods.is_empty() && book.held() == 0);
-        }
-        assert!(most >= 6 && most_with_draws >= 4, "{most} {most_with_draws}");
-    }
-}

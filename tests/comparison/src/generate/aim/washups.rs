@@ -114,32 +114,3 @@ impl Aim {
         self.random.pick(&[number, just_below, just_below, above[0], above[1], u32::MAX, far])
     }
 }
-
-#[cfg(test)]
-mod tests {
-    use super::*;
-    use crate::generate::aim::Manner;
-    use crate::generate::random::Random;
-    use reckoning::rules::making::Making;
-
-    /// Whether each of 24 below, 1 below and 0 is proposed, and that all stand; and that none of the
-    /// wrong ones stands.
-    #[test]
-    fn earlier_periods_stand_and_wrong_ones_do_not() {
-        let mut random = Random::new(4);
-        let manner = Manner::any(&mut random, 3);
-        let mut aim = Aim::new(random, &Making::alone(3), manner);
-        for number in [1, 2, 23, 24, 25, 26, 1_000, u32::MAX - 1, u32::MAX] {
-            let mut seen = [false; 2];
-            for _ in 0..200 {
-                let below = washup::below(number, aim.earlier_period(number));
-                assert!((1..=24).contains(&below), "{number}: {below}");
-                seen[0] |= below == 1;
-                seen[1] |= below == i64::from(number).min(24);
-                let wrong = washup::below(number, aim.wrong_earlier_period(number));
-                assert!(!(1..=24).contains(&wrong), "{number}: {wrong}");
-            }
-            assert_eq!(seen, [true; 2], "{number}");
-        }
-    }
-}
