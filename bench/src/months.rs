@@ -25,10 +25,11 @@ fn check(with: &mut Arguments, month: &Month) {
             assert_eq!(arguments::difference(row, cells), None);
         }
     };
+    let (Notice { retention, payable, .. }, settled) = (&month.notice, &month.settlement);
     assert!(with.notice());
-    holds(with, &[&month.retention, &month.payable]);
-    assert_eq!(with.settle(), month.rounds);
-    holds(with, &[&month.paid, &month.claim, &month.arrears]);
+    holds(with, &[retention, payable]);
+    assert_eq!(with.settle(), settled.rounds);
+    holds(with, &[&settled.paid, &settled.step_one.claim, &settled.step_one.arrears]);
     assert!(with.late());
     holds(with, &[&month.late[0].payments]);
 }
@@ -46,7 +47,8 @@ fn settle(month: &Month) -> Settlement {
 
 #[inline(never)]
 fn late(month: &Month) -> Vec<u128> {
-    let shortages = month::shortages(&month.sums, &month.claim, &month.paid);
+    let Settlement { step_one, paid, .. } = &month.settlement;
+    let shortages = month::shortages(&month.sums, &step_one.claim, paid);
     month::late_payments(&shortages, month.late[0].money)
 }
 
@@ -107,7 +109,7 @@ fn print_leftovers(months: &[Month]) {
 
 pub fn measure() {
     let comes_late = |month: &Month| !month.late.is_empty();
-    let with_rounds = |month: &Month| month.rounds > 0 && comes_late(month);
+    let with_rounds = |month: &Month| month.settlement.rounds > 0 && comes_late(month);
     let (months, mut rows) = checked(|seed| months::month_of(seed, PLACES), with_rounds);
     print_leftovers(&months);
     compare("notice", &months, &mut rows, Arguments::notice, notice);

@@ -55,7 +55,7 @@ impl Arguments {
     /// Those of a month and its first late receipt. Where the rest is the most, group numbers and
     /// reserves have cells past the 64 that count.
     pub fn of(month: &Month, rest: Rest) -> Arguments {
-        let making = &month.making;
+        let (making, settlement) = (&month.making, &month.settlement);
         let length = if let Rest::Most = rest { PLACES + PAST } else { PLACES };
         Arguments {
             by: row(&month.sums.by, rest),
@@ -63,8 +63,8 @@ impl Arguments {
             groups: slice(making.numbers().iter().map(|&group| group.into()), length, rest),
             reserves: slice(making.reserves.iter().map(|&cents| cents.into()), length, rest),
             received: row(&month.received, rest),
-            claims: row(&month.claim, rest),
-            paid: row(&month.paid, rest),
+            claims: row(&settlement.step_one.claim, rest),
+            paid: row(&settlement.paid, rest),
             money: month.late.first().map_or(0, |late| word(late.money)),
             n: month.n,
             written: [(); 3].map(|()| vec![BEFORE; PLACES + PAST]),

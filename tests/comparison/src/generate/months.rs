@@ -7,12 +7,11 @@ use crate::generate::groupings;
 use crate::generate::random::Random;
 use crate::generate::rounds;
 use reckoning::rules::making::Making;
-use reckoning::rules::month::{self, Notice, Sums, TIERS};
+use reckoning::rules::month::{self, Notice, Settlement, Sums, TIERS};
 
 /// A late receipt and what it pays each participant.
 #[derive(Clone, Debug)]
 pub struct Late {
-    pub payer: usize,
     pub cents: u128,
     /// Each participant's shortage by tier before the receipt.
     pub shortages: Vec<[u128; TIERS]>,
@@ -29,23 +28,12 @@ pub struct Month {
     /// What the month's book is made with.
     pub making: Making,
     pub sums: Sums,
-    pub retention: Vec<u128>,
-    pub payable: Vec<u128>,
-    pub full_claim: Vec<u128>,
+    pub notice: Notice,
     pub received: Vec<u128>,
-    pub set_off: Vec<u128>,
-    /// Right after settlement.
-    pub arrears: Vec<u128>,
-    pub claim: Vec<u128>,
+    pub settlement: Settlement,
+    /// The money of step 2.
     pub available: u128,
-    /// V.
-    pub revised: Vec<u128>,
-    /// The scaled amounts above 0; 0 elsewhere.
-    pub scaled_above: Vec<u128>,
-    /// The scaled amounts below 0, sign turned; 0 elsewhere.
-    pub scaled_below: Vec<u128>,
-    pub paid: Vec<u128>,
-    pub rounds: u64,
+    /// Right after settlement.
     pub held: u128,
     pub late: Vec<Late>,
 }
@@ -54,7 +42,7 @@ impl Month {
     /// Whether groups of one and no reserves would give another payable row.
     pub fn has_other_row(&self) -> bool {
         let alone = Making::alone(self.n as u64);
-        month::notice(&self.sums, &alone).payable != self.payable
+        month::notice(&self.sums, &alone).payable != self.notice.payable
     }
 
     /// Counts what there is to see of it: its groups, its settlement and its late receipts.
@@ -102,7 +90,8 @@ fn any_receipts(random: &mut Random, notice: &Notice) -> Vec<u128> {
 /// Late receipts in slices, until the arrears are gone or at most 20 were received.
 fn any_late(random: &mut Random, month: &Month) -> Vec<Late> {
     let mut late = Vec::new();
-    let (mut arrears, mut paid, mut held) = (month.arrears.clone(), month.paid.clone(), month.held);
+    let Settlement { step_one, paid, .. } = &month.settlement;
+    let (mut arrears, mut paid, mut held) = (step_one.arrears.clone(), paid.clone(), month.held);
     while late.len() < 20 {
         let payers: Vec<usize> = (0..month.n).filter(|&i| arrears[i] > 0).collect();
         if payers.is_empty() {
@@ -111,13 +100,13 @@ fn any_late(random: &mut Random, month: &Month) -> Vec<Late> {
         let payer = random.pick(&payers);
         let part = random.between(1, arrears[payer] as u64);
         let cents = if random.chance(1, 2) { arrears[payer] } else { part.into() };
-        let shortages = month::shortages(&month.sums, &month.claim, &paid);
+        let shortages = month::shortages(&month.sums, &step_one.claim, &paid);
         let money = held + cents;
         let payments = month::late_payments(&shortages, money);
         arrears[payer] -= cents;
         paid.iter_mut().zip(&payments).for_each(|(paid, payment)| *paid += payment);
         held = money - payments.iter().sum::<u128>();
-        late.push(Late { payer, cents, shortages, money, payments, held_after: held });
+        late.push(Late { cents, shortages, money, payments, held_after: held });
     }
     late
 }
@@ -149,28 +138,11 @@ pub fn month_in(seed: u64, making: Making) -> Month {
         received.clone_from(&notice.payable);
         received[..2].fill(0);
     }
-    let settled = month::settle(&sums, &notice, &received);
-    let total_arrears: u128 = settled.step_one.arrears.iter().sum();
-    let mut month = Month {
-        n,
-        making,
-        available: sums.total(1) - total_arrears,
-        held: received.iter().sum::<u128>() - settled.paid.iter().sum::<u128>(),
-        retention: notice.retention,
-        payable: notice.payable,
-        full_claim: notice.full_claim,
-        received,
-        set_off: settled.step_one.set_off,
-        arrears: settled.step_one.arrears,
-        claim: settled.step_one.claim,
-        revised: settled.revised,
-        scaled_above: settled.scaled.iter().map(|s| s.max(&0).unsigned_abs()).collect(),
-        scaled_below: settled.scaled.iter().map(|s| s.min(&0).unsigned_abs()).collect(),
-        paid: settled.paid,
-        rounds: settled.rounds,
-        late: vec![],
-        sums,
-    };
+    let settlement = month::settle(&sums, &notice, &received);
+    let available = sums.total(1) - settlement.step_one.arrears.iter().sum::<u128>();
+    let held = received.iter().sum::<u128>() - settlement.paid.iter().sum::<u128>();
+    let late = vec![];
+    let mut month = Month { n, making, sums, notice, received, settlement, available, held, late };
     month.late = any_late(&mut random, &month);
     month
 }
@@ -197,13 +169,13 @@ mod tests {
         let mut most_rounds = 0;
         for seed in 0..3_000 {
             let month = month(seed);
-            let mut paid = month.paid.clone();
-            let mut unpaid = total(&month.claim) - total(&paid);
-            let mut arrears = total(&month.arrears);
+            let Settlement { step_one, mut paid, rounds, .. } = month.settlement;
+            let mut unpaid = total(&step_one.claim) - total(&paid);
+            let mut arrears = total(&step_one.arrears);
             assert_eq!(unpaid, arrears + month.held, "seed {seed}");
             assert!(month.held < month.n as u128, "seed {seed}");
-            assert!(month.rounds <= month.n as u64, "seed {seed}");
-            most_rounds = most_rounds.max(month.rounds);
+            assert!(rounds <= month.n as u64, "seed {seed}");
+            most_rounds = most_rounds.max(rounds);
             for late in &month.late {
                 paid.iter_mut().zip(&late.payments).for_each(|(paid, more)| *paid += more);
                 unpaid -= total(&late.payments);
@@ -212,7 +184,7 @@ mod tests {
                 assert_eq!(late.held_after, 0, "seed {seed}");
             }
             if arrears == 0 {
-                assert_eq!(paid, month.claim, "seed {seed}");
+                assert_eq!(paid, step_one.claim, "seed {seed}");
             }
         }
         assert!(most_rounds >= 6);

@@ -2,7 +2,7 @@
 //! Step 4 of the settlement, which forms the deficit first, is held to it.
 
 use crate::generate::months::{self, Month};
-use reckoning::rules::month;
+use reckoning::rules::month::{self, Settlement};
 
 /// Whether AO positive counts a participant, by its scaled amount.
 type Counts = fn(i128) -> bool;
@@ -74,12 +74,6 @@ fn random_months() -> impl Iterator<Item = Month> {
     (0..4_096).map(|seed| months::month_of(seed, 1 + seed as usize % 64))
 }
 
-/// A month's scaled amounts with their signs.
-fn scaled_of(month: &Month) -> Vec<i128> {
-    let pairs = month.scaled_above.iter().zip(&month.scaled_below);
-    pairs.map(|(&above, &below)| above as i128 - below as i128).collect()
-}
-
 #[test]
 fn month_b_by_paragraphs() {
     let (scaled, revised) = ([0, 375, -75], [0, 375, 125]);
@@ -114,13 +108,12 @@ fn the_settlement_goes_by_the_clause() {
     // No negative amount; one round; two; three or more.
     let mut seen = [0; 4];
     for (seed, month) in random_months().enumerate() {
-        let scaled = scaled_of(&month);
+        let Settlement { scaled, revised, paid, rounds, .. } = month.settlement;
         let received: u128 = month.received.iter().sum();
         assert_eq!(scaled.iter().sum::<i128>(), received as i128, "seed {seed}");
-        let answer = by_clause(&scaled, &month.revised);
-        assert_eq!(answer, (month.paid, month.rounds), "seed {seed}");
-        assert_eq!(month.rounds > 0, scaled.iter().any(|&amount| amount < 0), "seed {seed}");
-        seen[month.rounds.min(3) as usize] += 1;
+        assert_eq!(by_clause(&scaled, &revised), (paid, rounds), "seed {seed}");
+        assert_eq!(rounds > 0, scaled.iter().any(|&amount| amount < 0), "seed {seed}");
+        seen[rounds.min(3) as usize] += 1;
     }
     assert!(seen.iter().all(|&count| count > 0), "{seen:?}");
 }
@@ -130,8 +123,8 @@ fn the_settlement_goes_by_the_clause() {
 fn another_ao_positive_is_told_apart() {
     let others: [Counts; 2] = [|_| true, |amount| amount != 0];
     for counts in others {
-        let mut months = random_months().map(|month| (scaled_of(&month), month.revised));
-        assert!(months.any(|(scaled, revised)| {
+        assert!(random_months().any(|month| {
+            let Settlement { scaled, revised, .. } = month.settlement;
             by_paragraphs(&scaled, &revised, counts) != by_clause(&scaled, &revised)
         }));
     }

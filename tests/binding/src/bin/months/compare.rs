@@ -3,6 +3,7 @@
 use binding::arguments::{self, word, Arguments, Rest};
 use comparison::coverage::Seen;
 use comparison::generate::months::Month;
+use reckoning::rules::month::{Notice, StepOne};
 
 /// What was compared, and how it differed.
 #[derive(Default)]
@@ -36,29 +37,34 @@ impl Count {
     /// A month's notice and settlement.
     pub fn month(&mut self, name: &str, month: &Month, rest: Rest) {
         let mut with = Arguments::of(month, rest);
+        let (Notice { retention, payable, .. }, settled) = (&month.notice, &month.settlement);
         self.number(&format!("{name}: notice taken"), 1, with.notice().into());
-        let rows = [("retention", &month.retention[..]), ("payable", &month.payable)];
-        self.rows(name, &mut with, &rows);
-        self.number(&format!("{name}: scaled taken"), 1, with.scaled().into());
+        self.rows(name, &mut with, &[("retention", retention), ("payable", payable)]);
+        let above: Vec<u128> = settled.scaled.iter().map(|s| s.max(&0).unsigned_abs()).collect();
+        let below: Vec<u128> = settled.scaled.iter().map(|s| s.min(&0).unsigned_abs()).collect();
         let rows = [
-            ("revised", &month.revised[..]),
-            ("scaled above 0", &month.scaled_above),
-            ("scaled below 0", &month.scaled_below),
+            ("revised", &settled.revised[..]),
+            ("scaled above 0", &above),
+            ("scaled below 0", &below),
         ];
+        self.number(&format!("{name}: scaled taken"), 1, with.scaled().into());
         self.rows(name, &mut with, &rows);
-        self.number(&format!("{name}: rounds"), month.rounds, with.settle());
-        let rows =
-            [("paid", &month.paid[..]), ("claim", &month.claim), ("arrears", &month.arrears)];
-        self.rows(name, &mut with, &rows);
+        let StepOne { claim, arrears, .. } = &settled.step_one;
+        self.number(&format!("{name}: rounds"), settled.rounds, with.settle());
+        self.rows(
+            name,
+            &mut with,
+            &[("paid", &settled.paid), ("claim", claim), ("arrears", arrears)],
+        );
         self.late(name, month, with, rest);
         self.months += 1;
-        self.with_rounds += u64::from(month.rounds > 0);
+        self.with_rounds += u64::from(settled.rounds > 0);
         month.show(&mut self.seen);
     }
 
     /// A month's late receipts, one after the other.
     fn late(&mut self, name: &str, month: &Month, mut with: Arguments, rest: Rest) {
-        let mut paid = month.paid.clone();
+        let mut paid = month.settlement.paid.clone();
         for (place, late) in month.late.iter().enumerate() {
             (with.money, with.paid) = (word(late.money), arguments::row(&paid, rest));
             self.number(&format!("{name}: late {place} taken"), 1, with.late().into());

@@ -3,7 +3,7 @@
 
 use crate::compare::Count;
 use crate::refused_groups;
-use binding::arguments::{row, word, Arguments, Rest, BEFORE, PLACES, TIER_PLACES};
+use binding::arguments::{row, Arguments, Rest, BEFORE, PLACES, TIER_PLACES};
 use comparison::generate::months::{self, Month};
 use reckoning::rules::book::MOST_TOTAL;
 
@@ -24,8 +24,8 @@ pub type Case = (&'static str, Arguments, Refuse);
 /// A month of n participants, groups of one, in which money comes late, and the first and the last
 /// have to pay.
 fn some_month(n: usize) -> Month {
-    let fits =
-        |month: &Month| !month.late.is_empty() && month.payable[0] > 0 && month.payable[n - 1] > 0;
+    let pays = |month: &Month, i: usize| month.notice.payable[i] > 0;
+    let fits = |month: &Month| !month.late.is_empty() && pays(month, 0) && pays(month, n - 1);
     (0..).map(|seed| months::month_of(seed, n)).find(fits).expect("there are many")
 }
 
@@ -86,7 +86,7 @@ fn bounds(right: &Arguments) -> Vec<Case> {
 }
 
 fn receipts(month: &Month, right: &Arguments) -> Vec<Case> {
-    let payable = row(&month.payable, Rest::Zero);
+    let payable = row(&month.notice.payable, Rest::Zero);
     let all = right.but(|with| with.received.clone_from(&payable));
     vec![
         ("all payable received", all.clone(), NONE),
@@ -99,7 +99,7 @@ fn receipts(month: &Month, right: &Arguments) -> Vec<Case> {
 fn late(month: &Month, right: &Arguments) -> Vec<Case> {
     let owing: Vec<u128> = (0..PLACES).map(|i| month.sums.owing_to(i)).collect();
     let owing = row(&owing, Rest::Zero);
-    let unpaid = word(month.claim.iter().sum::<u128>() - month.paid.iter().sum::<u128>());
+    let unpaid = right.claims.iter().sum::<u64>() - right.paid.iter().sum::<u64>();
     let all_claimed = right.but(|with| with.claims.clone_from(&owing));
     let all_paid = right.but(|with| {
         with.paid.clone_from(&with.claims);

@@ -76,7 +76,7 @@ pub fn reserves(right: &Arguments) -> Vec<Case> {
 /// The first participant of whom more, or less, is payable than by groups of one and no reserves.
 fn payer(month: &Month, order: Ordering) -> Option<usize> {
     let alone = month::notice(&month.sums, &Making::alone(month.n as u64)).payable;
-    (0..month.n).find(|&i| month.payable[i].cmp(&alone[i]) == order)
+    (0..month.n).find(|&i| month.notice.payable[i].cmp(&alone[i]) == order)
 }
 
 fn month_in_pairs(seed: u64) -> Month {
@@ -90,7 +90,7 @@ fn receipts_of(order: Ordering) -> [Arguments; 2] {
     let fits = |month: &Month| !month.late.is_empty() && payer(month, order).is_some();
     let month = (0..).map(month_in_pairs).find(fits).expect("there are many");
     let payer = payer(&month, order).expect("the month fits");
-    let payable = row(&month.payable, Rest::Zero);
+    let payable = row(&month.notice.payable, Rest::Zero);
     let all = of_month(&month).but(|with| with.received.clone_from(&payable));
     let above = all.but(|with| with.received[payer] += 1);
     [all, above]
