@@ -2,14 +2,14 @@
 //! and then 7, at each period limit.
 
 use crate::generate::makings::{refused, with_3, with_group_outside, with_reserve_outside, Case};
-use crate::pairs::{pair, Pair, Row, N};
+use crate::pairs::{after, pairs_after, Pair, N};
 use reckoning::programs::calls;
 use reckoning::rules::codec::Entry;
 use reckoning::rules::limits::{Limits, MOST_PERIODS};
 use reckoning::rules::making::Making;
 
 /// A group or a reserve outside with each refused n; alone are the group or the reserve.
-pub fn pairs_of_making_in_groups() -> Vec<Pair> {
+pub fn pairs_in_groups() -> Vec<Pair> {
     let mut pairs = Vec::new();
     for case in [with_group_outside(), with_reserve_outside()].into_iter().flatten() {
         for n in [0, 65, 259, u64::MAX] {
@@ -22,7 +22,7 @@ pub fn pairs_of_making_in_groups() -> Vec<Pair> {
 }
 
 /// Each n or limit outside with a group or a reserve outside; alone are the group or the reserve.
-fn pairs_of_making() -> Vec<Pair> {
+pub fn pairs_in_limits() -> Vec<Pair> {
     let outside = with_3();
     let with_a_case = refused().into_iter().zip(outside.iter().cycle());
     let pair = |((n, limits), case): ((u64, Limits), &Case)| {
@@ -36,27 +36,21 @@ fn pairs_of_making() -> Vec<Pair> {
 /// A book with periods 1 to its limit in it.
 fn full(periods: u64) -> Vec<u8> {
     let limits = Limits { participants: 8, periods };
-    let mut bytes = calls::book_of_limits(&Making::within(limits, N.into()));
-    bytes.extend((1..=periods).flat_map(|period| calls::apply(&Entry::open(period as u32), N)));
-    bytes
+    let openings: Vec<Entry> = (1..=periods as u32).map(Entry::open).collect();
+    after(&calls::book_of_limits(&Making::within(limits, N.into())), &openings, N)
 }
 
-fn rows_of_openings(limit: u32) -> [Row; 5] {
-    let (of, next) = ("open at a limit", Entry::open(limit + 1));
-    [
-        (of, 5, 7, next, N - 1, next),
-        (of, 5, 7, Entry::open(u32::MAX), 0, Entry::open(u32::MAX)),
-        (of, 6, 7, Entry::open(limit), N, next),
-        (of, 6, 7, Entry::open(1), N, next),
-        (of, 6, 7, Entry::open(0), N, Entry::open(u32::MAX)),
-    ]
-}
-
-pub fn pairs() -> Vec<Pair> {
-    let mut pairs = pairs_of_making();
-    for periods in 1..=MOST_PERIODS {
+pub fn pairs_of_openings() -> Vec<Pair> {
+    let in_book = |periods: u64| {
         let full = full(periods);
-        pairs.extend(rows_of_openings(periods as u32).into_iter().map(|row| pair(&full, row)));
-    }
-    pairs
+        let [of_0, of_1, highest, next, last] =
+            [0, 1, periods as u32, periods as u32 + 1, u32::MAX].map(Entry::open);
+        let of_6 = [(6, 7, highest, next), (6, 7, of_1, next), (6, 7, of_0, last)];
+        let mut pairs = pairs_after(&full, &[], &[(7, next)], &of_6);
+        let [both, alone] = [0, N].map(|words| after(&full, &[last], words));
+        pairs.push(Pair { of: "open", earlier: 5, later: 7, both, alone });
+        pairs
+    };
+    let pairs = (1..=MOST_PERIODS).flat_map(in_book);
+    pairs.map(|pair| Pair { of: "open at a limit", ..pair }).collect()
 }

@@ -22,7 +22,9 @@ mod washups;
 
 use crate::generate::makings::refused_books;
 use reckoning::programs::calls;
-use reckoning::rules::codec::{Entry, MOST_CENTS};
+use reckoning::rules::codec::{
+    Entry, AMOUNT, ENERGY, MOST_CENTS, NOTICE, OPEN, PURSE, RECEIPT, SETTLE,
+};
 use reckoning::rules::month_a;
 
 /// The pairs covered: an earlier refusal, and each later one that it is put with,
@@ -55,25 +57,25 @@ pub struct Pair {
     pub alone: Vec<u8>,
 }
 
-pub(crate) const N: u8 = 3;
+const N: u8 = 3;
 
 /// The period in which payer 0 has arrears after settlement.
-pub(crate) const SETTLED: u32 = 2;
+const SETTLED: u32 = 2;
 /// Month A after its notice.
-pub(crate) const NOTICED: u32 = 3;
+const NOTICED: u32 = 3;
 /// Before its notice; side 0 is at its bound, side 1 has nothing.
-pub(crate) const BEFORE: u32 = 4;
+const BEFORE: u32 = 4;
 /// After its notice; both sides are at their bound.
-pub(crate) const FULL: u32 = 5;
+const FULL: u32 = 5;
 /// Settled after period SETTLED, with arrears of payer 0 too.
 const SETTLED_LATER: u32 = 6;
 /// A period that left the book.
-pub(crate) const GONE: u32 = 1;
+const GONE: u32 = 1;
 /// A period never opened.
-pub(crate) const NEVER: u32 = 77;
+const NEVER: u32 = 77;
 
 /// The book that the pairs are built on, with n = 3.
-pub(crate) fn scene() -> Vec<u8> {
+fn scene() -> Vec<u8> {
     let mut entries = vec![Entry::open(GONE), Entry::notice(GONE), Entry::settle(GONE)];
     entries.extend(month_a::to_settle(SETTLED));
     entries.extend(month_a::to_notice(NOTICED));
@@ -85,34 +87,65 @@ pub(crate) fn scene() -> Vec<u8> {
     entries.push(Entry::notice(FULL));
     entries.extend(month_a::to_notice(SETTLED_LATER));
     entries.push(Entry::settle(SETTLED_LATER));
-    applied(&entries)
+    after(&calls::book(N.into()), &entries, N)
 }
 
 /// The same with twelve periods in the book; the highest is 13.
-pub(crate) fn scene_of_twelve() -> Vec<u8> {
-    let mut calls = scene();
-    for period in SETTLED_LATER + 1..=SETTLED_LATER + 7 {
-        calls.extend(calls::apply(&Entry::open(period), N));
-    }
-    calls
+fn scene_of_twelve() -> Vec<u8> {
+    let openings: Vec<Entry> = (SETTLED_LATER + 1..=SETTLED_LATER + 7).map(Entry::open).collect();
+    after(&scene(), &openings, N)
 }
 
-fn applied(entries: &[Entry]) -> Vec<u8> {
-    let mut calls = calls::book(N.into());
-    for entry in entries {
-        calls.extend(calls::apply(entry, N));
-    }
-    calls
+/// Some calls, and entries with so many payout words.
+fn after(before: &[u8], entries: &[Entry], words: u8) -> Vec<u8> {
+    let calls = entries.iter().flat_map(|entry| calls::apply(entry, words));
+    before.iter().copied().chain(calls).collect()
 }
 
-/// The entry with both conditions, its payout words, and the entry with the later alone.
-pub(crate) type Row = (&'static str, u8, u8, Entry, u8, Entry);
+/// The sort of an entry; a receipt in a settled period is late.
+fn sort(entry: Entry) -> &'static str {
+    match entry.kind {
+        OPEN => "open",
+        ENERGY => "energy",
+        AMOUNT => "amount",
+        NOTICE => "notice",
+        RECEIPT if [SETTLED, SETTLED_LATER].contains(&entry.period) => "late receipt",
+        RECEIPT => "receipt",
+        SETTLE => "settle",
+        PURSE => "purse",
+        _ => "washup",
+    }
+}
 
-pub(crate) fn pair(before: &[u8], row: Row) -> Pair {
-    let (of, earlier, later, both, words, alone) = row;
-    let both = [before, &calls::apply(&both, words)].concat();
-    let alone = [before, &calls::apply(&alone, N)].concat();
-    Pair { of, earlier, later, both, alone }
+/// The two refusals, the entry with both conditions and the entry with the later alone.
+type Row = (u8, u8, Entry, Entry);
+
+/// The pairs in a book that some calls leave: 4 and 5 with each refusal that comes after them, on the
+/// same entry, and others. 4 is by every refused book, and 5 by one payout word too few.
+fn pairs_after(
+    before: &[u8],
+    of_4: &[(u8, Entry)],
+    of_5: &[(u8, Entry)],
+    others: &[Row],
+) -> Vec<Pair> {
+    let mut pairs = Vec::new();
+    let mut add = |earlier, later, entry, both, alone| {
+        pairs.push(Pair { of: sort(entry), earlier, later, both, alone });
+    };
+    for &(later, entry) in of_4 {
+        // Where 5 is the later, no payout word is lent.
+        let words = if later == 5 { 0 } else { N };
+        for book in refused_books() {
+            add(4, later, entry, after(&book, &[entry], words), after(before, &[entry], words));
+        }
+    }
+    for &(later, entry) in of_5 {
+        add(5, later, entry, after(before, &[entry], N - 1), after(before, &[entry], N));
+    }
+    for &(earlier, later, both, alone) in others {
+        add(earlier, later, both, after(before, &[both], N), after(before, &[alone], N));
+    }
+    pairs
 }
 
 fn energy(period: u32, participant: u8, side: u8) -> Entry {
@@ -123,40 +156,35 @@ fn by(period: u32, participant: u8, cents: u64) -> Entry {
     Entry::amount(period, participant, 0, 0, cents)
 }
 
-fn receipt(period: u32, participant: u8, cents: u64) -> Entry {
-    Entry::receipt(period, participant, cents)
-}
-
-/// 5 with every refusal after it, on the same entry with n words.
-fn rows_of_5() -> Vec<Row> {
-    let entries = [
-        ("energy", 3, energy(BEFORE, 0, 2)),
-        ("amount", 3, by(BEFORE, 0, 0)),
-        ("receipt", 3, receipt(NOTICED, 64, 1)),
-        ("open", 6, Entry::open(SETTLED_LATER)),
-        ("energy", 8, energy(NEVER, 0, 0)),
-        ("amount", 8, by(NEVER, 0, 1)),
-        ("notice", 8, Entry::notice(NEVER)),
-        ("receipt", 8, receipt(NEVER, 0, 1)),
-        ("settle", 8, Entry::settle(NEVER)),
-        ("energy", 12, energy(BEFORE, 3, 1)),
-        ("amount", 12, by(BEFORE, 3, 1)),
-        ("receipt", 12, receipt(NOTICED, 3, 1)),
-        ("energy", 9, energy(NOTICED, 0, 0)),
-        ("amount", 9, by(NOTICED, 0, 1)),
-        ("notice", 9, Entry::notice(NOTICED)),
-        ("receipt", 9, receipt(BEFORE, 2, 1)),
-        ("settle", 9, Entry::settle(BEFORE)),
-        ("settle", 9, Entry::settle(SETTLED)),
-        ("energy", 11, energy(BEFORE, 0, 0)),
-        ("amount", 11, by(BEFORE, 0, 1)),
-        ("notice", 10, Entry::notice(BEFORE)),
-        ("receipt", 14, receipt(NOTICED, 0, 1)),
-        ("late receipt", 14, receipt(SETTLED_LATER, 0, 1)),
-        ("receipt", 13, receipt(NOTICED, 2, 335)),
-        ("late receipt", 13, receipt(SETTLED, 0, 301)),
-    ];
-    entries.into_iter().map(|(of, later, entry)| (of, 5, later, entry, N - 1, entry)).collect()
+/// Every refusal after 5.
+fn rows_of_5() -> [(u8, Entry); 25] {
+    [
+        (3, energy(BEFORE, 0, 2)),
+        (3, by(BEFORE, 0, 0)),
+        (3, Entry::receipt(NOTICED, 64, 1)),
+        (6, Entry::open(SETTLED_LATER)),
+        (8, energy(NEVER, 0, 0)),
+        (8, by(NEVER, 0, 1)),
+        (8, Entry::notice(NEVER)),
+        (8, Entry::receipt(NEVER, 0, 1)),
+        (8, Entry::settle(NEVER)),
+        (12, energy(BEFORE, 3, 1)),
+        (12, by(BEFORE, 3, 1)),
+        (12, Entry::receipt(NOTICED, 3, 1)),
+        (9, energy(NOTICED, 0, 0)),
+        (9, by(NOTICED, 0, 1)),
+        (9, Entry::notice(NOTICED)),
+        (9, Entry::receipt(BEFORE, 2, 1)),
+        (9, Entry::settle(BEFORE)),
+        (9, Entry::settle(SETTLED)),
+        (11, energy(BEFORE, 0, 0)),
+        (11, by(BEFORE, 0, 1)),
+        (10, Entry::notice(BEFORE)),
+        (14, Entry::receipt(NOTICED, 0, 1)),
+        (14, Entry::receipt(SETTLED_LATER, 0, 1)),
+        (13, Entry::receipt(NOTICED, 2, 335)),
+        (13, Entry::receipt(SETTLED, 0, 301)),
+    ]
 }
 
 /// 3 with every refusal after it.
@@ -164,108 +192,88 @@ fn rows_of_3() -> Vec<Row> {
     let past = MOST_CENTS + 1;
     let dear = Entry::energy(BEFORE, 0, 0, 100_000_001, 10_000_000);
     vec![
-        ("energy", 3, 8, energy(NEVER, 0, 2), N, energy(NEVER, 0, 1)),
-        ("amount", 3, 8, by(NEVER, 0, 0), N, by(NEVER, 0, 1)),
-        ("receipt", 3, 8, receipt(NEVER, 0, 0), N, receipt(NEVER, 0, 1)),
-        ("energy", 3, 12, energy(BEFORE, 64, 1), N, energy(BEFORE, 63, 1)),
-        ("amount", 3, 12, by(BEFORE, 255, 1), N, by(BEFORE, 63, 1)),
-        ("amount", 3, 12, Entry::amount(BEFORE, 3, 1, 6, 1), N, Entry::amount(BEFORE, 3, 1, 5, 1)),
-        ("receipt", 3, 12, receipt(NOTICED, 64, 1), N, receipt(NOTICED, 63, 1)),
-        ("energy", 3, 9, energy(NOTICED, 0, 2), N, energy(NOTICED, 0, 1)),
-        ("amount", 3, 9, Entry::amount(NOTICED, 0, 0, 1, 1), N, by(NOTICED, 0, 1)),
-        ("receipt", 3, 9, receipt(BEFORE, 2, 0), N, receipt(BEFORE, 2, 1)),
-        ("energy", 3, 11, dear, N, energy(BEFORE, 0, 0)),
-        ("amount", 3, 11, by(BEFORE, 0, past), N, by(BEFORE, 0, 1)),
-        ("receipt", 3, 14, receipt(NOTICED, 0, 0), N, receipt(NOTICED, 0, 1)),
-        ("late receipt", 3, 14, receipt(SETTLED_LATER, 0, 0), N, receipt(SETTLED_LATER, 0, 1)),
-        ("receipt", 3, 13, receipt(NOTICED, 2, past), N, receipt(NOTICED, 2, MOST_CENTS)),
-        ("late receipt", 3, 13, receipt(SETTLED, 0, past), N, receipt(SETTLED, 0, 301)),
+        (3, 8, energy(NEVER, 0, 2), energy(NEVER, 0, 1)),
+        (3, 8, by(NEVER, 0, 0), by(NEVER, 0, 1)),
+        (3, 8, Entry::receipt(NEVER, 0, 0), Entry::receipt(NEVER, 0, 1)),
+        (3, 12, energy(BEFORE, 64, 1), energy(BEFORE, 63, 1)),
+        (3, 12, by(BEFORE, 255, 1), by(BEFORE, 63, 1)),
+        (3, 12, Entry::amount(BEFORE, 3, 1, 6, 1), Entry::amount(BEFORE, 3, 1, 5, 1)),
+        (3, 12, Entry::receipt(NOTICED, 64, 1), Entry::receipt(NOTICED, 63, 1)),
+        (3, 9, energy(NOTICED, 0, 2), energy(NOTICED, 0, 1)),
+        (3, 9, Entry::amount(NOTICED, 0, 0, 1, 1), by(NOTICED, 0, 1)),
+        (3, 9, Entry::receipt(BEFORE, 2, 0), Entry::receipt(BEFORE, 2, 1)),
+        (3, 11, dear, energy(BEFORE, 0, 0)),
+        (3, 11, by(BEFORE, 0, past), by(BEFORE, 0, 1)),
+        (3, 14, Entry::receipt(NOTICED, 0, 0), Entry::receipt(NOTICED, 0, 1)),
+        (3, 14, Entry::receipt(SETTLED_LATER, 0, 0), Entry::receipt(SETTLED_LATER, 0, 1)),
+        (3, 13, Entry::receipt(NOTICED, 2, past), Entry::receipt(NOTICED, 2, MOST_CENTS)),
+        (3, 13, Entry::receipt(SETTLED, 0, past), Entry::receipt(SETTLED, 0, 301)),
     ]
 }
 
 /// 8, 12, 9 and 14 with every refusal after them.
 fn rows_of_the_operator_and_payer() -> Vec<Row> {
     vec![
-        ("energy", 8, 12, energy(NEVER, 3, 1), N, energy(BEFORE, 3, 1)),
-        ("amount", 8, 12, by(NEVER, 63, 1), N, by(BEFORE, 63, 1)),
-        ("receipt", 8, 12, receipt(NEVER, 3, 1), N, receipt(NOTICED, 3, 1)),
-        ("energy", 8, 9, energy(GONE, 0, 1), N, energy(SETTLED, 0, 1)),
-        ("amount", 8, 9, by(GONE, 0, 1), N, by(SETTLED, 0, 1)),
-        ("notice", 8, 9, Entry::notice(GONE), N, Entry::notice(SETTLED)),
-        ("settle", 8, 9, Entry::settle(GONE), N, Entry::settle(SETTLED)),
-        ("receipt", 8, 14, receipt(NEVER, 0, 1), N, receipt(NOTICED, 0, 1)),
-        ("receipt", 8, 13, receipt(GONE, 2, 1), N, receipt(SETTLED, 2, 1)),
-        ("energy", 12, 9, energy(NOTICED, 3, 0), N, energy(NOTICED, 2, 0)),
-        ("amount", 12, 9, by(SETTLED, 63, 1), N, by(SETTLED, 2, 1)),
-        ("receipt", 12, 9, receipt(BEFORE, 3, 1), N, receipt(BEFORE, 2, 1)),
-        ("energy", 12, 11, energy(BEFORE, 3, 0), N, energy(BEFORE, 2, 0)),
-        ("amount", 12, 11, by(BEFORE, 3, 1), N, by(BEFORE, 2, 1)),
-        ("receipt", 12, 13, receipt(NOTICED, 3, 335), N, receipt(NOTICED, 2, 335)),
-        ("late receipt", 12, 13, receipt(SETTLED, 3, 301), N, receipt(SETTLED, 0, 301)),
-        ("energy", 9, 11, energy(FULL, 0, 1), N, energy(BEFORE, 0, 0)),
-        ("amount", 9, 11, by(FULL, 0, 1), N, by(BEFORE, 0, 1)),
-        ("receipt", 9, 14, receipt(BEFORE, 0, 1), N, receipt(NOTICED, 0, 1)),
-        ("receipt", 9, 13, receipt(BEFORE, 2, 335), N, receipt(NOTICED, 2, 335)),
-        ("receipt", 14, 13, receipt(NOTICED, 0, 601), N, receipt(NOTICED, 2, 335)),
-        ("late receipt", 14, 13, receipt(SETTLED_LATER, 0, 601), N, receipt(SETTLED, 0, 301)),
+        (8, 12, energy(NEVER, 3, 1), energy(BEFORE, 3, 1)),
+        (8, 12, by(NEVER, 63, 1), by(BEFORE, 63, 1)),
+        (8, 12, Entry::receipt(NEVER, 3, 1), Entry::receipt(NOTICED, 3, 1)),
+        (8, 9, energy(GONE, 0, 1), energy(SETTLED, 0, 1)),
+        (8, 9, by(GONE, 0, 1), by(SETTLED, 0, 1)),
+        (8, 9, Entry::notice(GONE), Entry::notice(SETTLED)),
+        (8, 9, Entry::settle(GONE), Entry::settle(SETTLED)),
+        (8, 14, Entry::receipt(NEVER, 0, 1), Entry::receipt(NOTICED, 0, 1)),
+        (8, 13, Entry::receipt(GONE, 2, 1), Entry::receipt(SETTLED, 2, 1)),
+        (12, 9, energy(NOTICED, 3, 0), energy(NOTICED, 2, 0)),
+        (12, 9, by(SETTLED, 63, 1), by(SETTLED, 2, 1)),
+        (12, 9, Entry::receipt(BEFORE, 3, 1), Entry::receipt(BEFORE, 2, 1)),
+        (12, 11, energy(BEFORE, 3, 0), energy(BEFORE, 2, 0)),
+        (12, 11, by(BEFORE, 3, 1), by(BEFORE, 2, 1)),
+        (12, 13, Entry::receipt(NOTICED, 3, 335), Entry::receipt(NOTICED, 2, 335)),
+        (12, 13, Entry::receipt(SETTLED, 3, 301), Entry::receipt(SETTLED, 0, 301)),
+        (9, 11, energy(FULL, 0, 1), energy(BEFORE, 0, 0)),
+        (9, 11, by(FULL, 0, 1), by(BEFORE, 0, 1)),
+        (9, 14, Entry::receipt(BEFORE, 0, 1), Entry::receipt(NOTICED, 0, 1)),
+        (9, 13, Entry::receipt(BEFORE, 2, 335), Entry::receipt(NOTICED, 2, 335)),
+        (14, 13, Entry::receipt(NOTICED, 0, 601), Entry::receipt(NOTICED, 2, 335)),
+        (14, 13, Entry::receipt(SETTLED_LATER, 0, 601), Entry::receipt(SETTLED, 0, 301)),
+    ]
+}
+
+/// Every refusal after 4 whose condition a book without participants can meet.
+fn rows_of_4() -> [(u8, Entry); 10] {
+    [
+        (3, energy(BEFORE, 0, 2)),
+        (3, by(BEFORE, 0, 0)),
+        (3, Entry::receipt(NOTICED, 64, 1)),
+        (5, Entry::open(14)),
+        (5, by(BEFORE, 0, 1)),
+        (6, Entry::open(0)),
+        (8, Entry::notice(NEVER)),
+        (8, Entry::settle(NEVER)),
+        (12, by(BEFORE, 3, 1)),
+        (12, Entry::receipt(NOTICED, 63, 1)),
     ]
 }
 
 /// 5 with 7, and 6 with 7.
-fn rows_of_twelve_periods() -> Vec<Row> {
-    vec![
-        ("open", 5, 7, Entry::open(14), N - 1, Entry::open(14)),
-        ("open", 6, 7, Entry::open(13), N, Entry::open(14)),
-        ("open", 6, 7, Entry::open(0), N, Entry::open(u32::MAX)),
-    ]
-}
-
-/// 4 with every refusal whose condition a book without participants can meet.
-fn pairs_of_4(scene: &[u8]) -> Vec<Pair> {
-    let rows = [
-        ("energy", 3, energy(BEFORE, 0, 2), N),
-        ("amount", 3, by(BEFORE, 0, 0), N),
-        ("receipt", 3, receipt(NOTICED, 64, 1), N),
-        ("open", 5, Entry::open(14), 0),
-        ("amount", 5, by(BEFORE, 0, 1), 0),
-        ("open", 6, Entry::open(0), N),
-        ("notice", 8, Entry::notice(NEVER), N),
-        ("settle", 8, Entry::settle(NEVER), N),
-        ("amount", 12, by(BEFORE, 3, 1), N),
-        ("receipt", 12, receipt(NOTICED, 63, 1), N),
-    ];
-    with_refused_books(scene, &rows)
-}
-
-/// Entries with so many payout words that a standing book refuses, put to each refused book.
-pub(crate) fn with_refused_books(
-    scene: &[u8],
-    rows: &[(&'static str, u8, Entry, u8)],
-) -> Vec<Pair> {
-    let mut pairs = Vec::new();
-    for &(of, later, entry, words) in rows {
-        let call = calls::apply(&entry, words);
-        for book in refused_books() {
-            let both = [book, call.clone()].concat();
-            let alone = [scene, &call].concat();
-            pairs.push(Pair { of, earlier: 4, later, both, alone });
-        }
-    }
-    pairs
+fn pairs_of_twelve_periods() -> Vec<Pair> {
+    let [of_0, of_13, of_14, last] = [0, 13, 14, u32::MAX].map(Entry::open);
+    pairs_after(&scene_of_twelve(), &[], &[(7, of_14)], &[(6, 7, of_13, of_14), (6, 7, of_0, last)])
 }
 
 /// Every pair, with its calls.
 pub fn pairs() -> Vec<Pair> {
-    let mut pairs = bytes::pairs();
-    let (scene, twelve) = (scene(), scene_of_twelve());
-    pairs.extend(pairs_of_4(&scene));
-    for rows in [rows_of_5(), rows_of_3(), rows_of_the_operator_and_payer()] {
-        pairs.extend(rows.into_iter().map(|row| pair(&scene, row)));
-    }
-    pairs.extend(rows_of_twelve_periods().into_iter().map(|row| pair(&twelve, row)));
-    pairs.extend(purses::pairs(&scene));
-    pairs.extend(washups::pairs(&scene));
-    pairs.extend(makings::pairs_of_making_in_groups());
-    pairs.extend(makings::pairs());
-    pairs
+    let scene = scene();
+    let others = [rows_of_3(), rows_of_the_operator_and_payer()].concat();
+    let all = [
+        bytes::pairs(),
+        pairs_after(&scene, &rows_of_4(), &rows_of_5(), &others),
+        pairs_of_twelve_periods(),
+        purses::pairs(&scene),
+        washups::pairs(&scene),
+        makings::pairs_in_groups(),
+        makings::pairs_in_limits(),
+        makings::pairs_of_openings(),
+    ];
+    all.into_iter().flatten().collect()
 }

@@ -5,14 +5,8 @@
 //! - 4 with 15: a refused book has no purses.
 //! - 15 with 6 to 11, 13 or 14: a purse entry names no period, and no other kind is tested for 15.
 
-use crate::pairs::{pair, with_refused_books, Pair, Row, N, NEVER};
-use reckoning::programs::calls;
+use crate::pairs::{after, pairs_after, Pair, N, NEVER};
 use reckoning::rules::codec::{Entry, MOST_CENTS};
-
-/// Participant 2's purse is at its bound, and the others' are empty.
-fn with_a_full_purse(scene: &[u8]) -> Vec<u8> {
-    [scene, &calls::apply(&Entry::purse(2, MOST_CENTS), N)].concat()
-}
 
 /// A purse entry with nonsense in the fields that it lacks.
 fn purse(participant: u8, cents: u64) -> Entry {
@@ -22,7 +16,10 @@ fn purse(participant: u8, cents: u64) -> Entry {
     Entry { quantity, old_quantity, price, ..entry }
 }
 
-fn rows() -> Vec<Row> {
+/// The pairs in a book that is made by some calls.
+pub fn pairs(scene: &[u8]) -> Vec<Pair> {
+    // Participant 2's purse is at its bound, and the others' are empty.
+    let before = after(scene, &[Entry::purse(2, MOST_CENTS)], N);
     let past = MOST_CENTS + 1;
     let of_5 = [
         (3, purse(64, 1)),
@@ -33,29 +30,20 @@ fn rows() -> Vec<Row> {
         (15, purse(2, 1)),
         (15, purse(2, MOST_CENTS)),
     ];
-    let of_5 = of_5.into_iter().map(|(later, entry)| ("purse", 5, later, entry, N - 1, entry));
     let of_3 = [
-        ("purse", 3, 12, purse(64, 1), N, purse(63, 1)),
-        ("purse", 3, 12, purse(255, MOST_CENTS), N, purse(63, MOST_CENTS)),
-        ("purse", 3, 12, purse(3, 0), N, purse(3, 1)),
-        ("purse", 3, 12, purse(3, past), N, purse(3, MOST_CENTS)),
-        ("purse", 3, 15, purse(2, past), N, purse(2, MOST_CENTS)),
-        ("purse", 3, 15, purse(2, u64::MAX), N, purse(2, 1)),
+        (3, 12, purse(64, 1), purse(63, 1)),
+        (3, 12, purse(255, MOST_CENTS), purse(63, MOST_CENTS)),
+        (3, 12, purse(3, 0), purse(3, 1)),
+        (3, 12, purse(3, past), purse(3, MOST_CENTS)),
+        (3, 15, purse(2, past), purse(2, MOST_CENTS)),
+        (3, 15, purse(2, u64::MAX), purse(2, 1)),
     ];
-    of_5.chain(of_3).collect()
-}
-
-/// The pairs in a book that is made by some calls.
-pub fn pairs(scene: &[u8]) -> Vec<Pair> {
-    let before = with_a_full_purse(scene);
-    let rows_of_4 = [
-        ("purse", 3, purse(64, 1), N),
-        ("purse", 3, purse(0, 0), N),
-        ("purse", 5, purse(0, 1), 0),
-        ("purse", 12, purse(3, 1), N),
-        ("purse", 12, purse(63, MOST_CENTS), N),
+    let of_4 = [
+        (3, purse(64, 1)),
+        (3, purse(0, 0)),
+        (5, purse(0, 1)),
+        (12, purse(3, 1)),
+        (12, purse(63, MOST_CENTS)),
     ];
-    let mut pairs: Vec<Pair> = rows().into_iter().map(|row| pair(&before, row)).collect();
-    pairs.extend(with_refused_books(&before, &rows_of_4));
-    pairs
+    pairs_after(&before, &of_4, &of_5, &of_3)
 }

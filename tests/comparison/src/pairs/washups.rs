@@ -5,20 +5,11 @@
 //! - 8 with 11: a period not in the book has no totals.
 //! - 16 with 6, 7, 10 or 13 to 15: no kind is tested for both.
 
-use crate::pairs::{
-    pair, with_refused_books, Pair, Row, BEFORE, FULL, GONE, N, NEVER, NOTICED, SETTLED,
-};
-use reckoning::programs::calls;
+use crate::pairs::{after, pairs_after, Pair, Row, BEFORE, FULL, GONE, N, NEVER, NOTICED, SETTLED};
 use reckoning::rules::codec::{Entry, MOST_CENTS};
 
 /// Before its notice; side 1 is at its bound, side 0 has nothing. With BEFORE it is the other way.
 const SIDE_1_FULL: u32 = 40;
-
-fn with_side_1_full(scene: &[u8]) -> Vec<u8> {
-    let open = calls::apply(&Entry::open(SIDE_1_FULL), N);
-    let amount = Entry::amount(SIDE_1_FULL, 1, 1, 5, MOST_CENTS);
-    [scene, &open, &calls::apply(&amount, N)].concat()
-}
 
 /// A washup by 23 cents with nonsense in the fields that it lacks.
 fn washup(period: u32, earlier: u32, participant: u8, side: u8, up: bool) -> Entry {
@@ -47,9 +38,9 @@ fn past_bound() -> [Entry; 4] {
     ]
 }
 
-/// 5 with every refusal after it, on the same entry with n words.
-fn rows_of_5() -> Vec<Row> {
-    let mut entries = vec![
+/// Every refusal after 5.
+fn rows_of_5() -> Vec<(u8, Entry)> {
+    let mut rows = vec![
         (3, outside(fits(3, 0))),
         (8, washup(NEVER, 76, 0, 0, true)),
         (12, fits(3, 3)),
@@ -57,9 +48,8 @@ fn rows_of_5() -> Vec<Row> {
         (16, fits(BEFORE, 0)),
         (16, fits(u32::MAX, 0)),
     ];
-    entries.extend(past_bound().map(|entry| (11, entry)));
-    let row = |(later, entry)| ("washup", 5, later, entry, N - 1, entry);
-    entries.into_iter().map(row).collect()
+    rows.extend(past_bound().map(|entry| (11, entry)));
+    rows
 }
 
 /// 3, by each field that has values, with every refusal after it.
@@ -69,16 +59,16 @@ fn rows_of_3() -> Vec<Row> {
     let noticed = washup(NOTICED, 2, 0, 0, true);
     let itself = fits(BEFORE, 0);
     let mut rows = vec![
-        ("washup", 3, 8, outside(gone), N, gone),
-        ("washup", 3, 12, fits(3, 64), N, fits(3, 63)),
-        ("washup", 3, 12, Entry { quantity: kwh, ..fits(3, 3) }, N, fits(3, 3)),
-        ("washup", 3, 9, Entry { old_quantity: kwh, ..noticed }, N, noticed),
-        ("washup", 3, 16, Entry { old_quantity: kwh, ..itself }, N, itself),
-        ("washup", 3, 16, Entry { quantity: u32::MAX, ..itself }, N, itself),
-        ("washup", 3, 16, Entry { price, ..itself }, N, itself),
-        ("washup", 3, 16, outside(itself), N, itself),
+        (3, 8, outside(gone), gone),
+        (3, 12, fits(3, 64), fits(3, 63)),
+        (3, 12, Entry { quantity: kwh, ..fits(3, 3) }, fits(3, 3)),
+        (3, 9, Entry { old_quantity: kwh, ..noticed }, noticed),
+        (3, 16, Entry { old_quantity: kwh, ..itself }, itself),
+        (3, 16, Entry { quantity: u32::MAX, ..itself }, itself),
+        (3, 16, Entry { price, ..itself }, itself),
+        (3, 16, outside(itself), itself),
     ];
-    rows.extend(past_bound().map(|entry| ("washup", 3, 11, Entry { price, ..entry }, N, entry)));
+    rows.extend(past_bound().map(|entry| (3, 11, Entry { price, ..entry }, entry)));
     rows
 }
 
@@ -90,42 +80,41 @@ fn rows_of_the_operator() -> Vec<Row> {
     let settled = washup(SETTLED, 1, 0, 1, false);
     let full = washup(FULL, 4, 0, 0, true);
     let mut rows = vec![
-        ("washup", 8, 12, never, N, fits(3, 3)),
-        ("washup", 8, 9, washup(GONE, 0, 0, 0, true), N, settled),
-        ("washup", 8, 16, itself(washup(NEVER, 0, 0, 0, true)), N, fits(BEFORE, 0)),
-        ("washup", 8, 16, washup(GONE, u32::MAX, 0, 0, true), N, fits(u32::MAX, 0)),
-        ("washup", 12, 9, noticed(3), N, noticed(2)),
-        ("washup", 12, 9, Entry { participant: 63, ..settled }, N, settled),
-        ("washup", 12, 16, fits(BEFORE, 3), N, fits(BEFORE, 2)),
-        ("washup", 12, 16, fits(5, 63), N, fits(5, 2)),
-        ("washup", 9, 16, itself(noticed(0)), N, fits(BEFORE, 0)),
-        ("washup", 9, 16, Entry { earlier_period: 3, ..settled }, N, fits(5, 0)),
-        ("washup", 9, 11, full, N, past_bound()[0]),
-        ("washup", 9, 11, Entry { side: 1, ..full }, N, past_bound()[2]),
+        (8, 12, never, fits(3, 3)),
+        (8, 9, washup(GONE, 0, 0, 0, true), settled),
+        (8, 16, itself(washup(NEVER, 0, 0, 0, true)), fits(BEFORE, 0)),
+        (8, 16, washup(GONE, u32::MAX, 0, 0, true), fits(u32::MAX, 0)),
+        (12, 9, noticed(3), noticed(2)),
+        (12, 9, Entry { participant: 63, ..settled }, settled),
+        (12, 16, fits(BEFORE, 3), fits(BEFORE, 2)),
+        (12, 16, fits(5, 63), fits(5, 2)),
+        (9, 16, itself(noticed(0)), fits(BEFORE, 0)),
+        (9, 16, Entry { earlier_period: 3, ..settled }, fits(5, 0)),
+        (9, 11, full, past_bound()[0]),
+        (9, 11, Entry { side: 1, ..full }, past_bound()[2]),
     ];
     for entry in past_bound() {
-        rows.push(("washup", 12, 11, Entry { participant: 3, ..entry }, N, entry));
+        rows.push((12, 11, Entry { participant: 3, ..entry }, entry));
         for earlier_period in [entry.period, entry.period + 1, u32::MAX] {
-            rows.push(("washup", 16, 11, Entry { earlier_period, ..entry }, N, entry));
+            rows.push((16, 11, Entry { earlier_period, ..entry }, entry));
         }
     }
     let far_below = Entry { earlier_period: SIDE_1_FULL - 25, ..past_bound()[2] };
-    rows.push(("washup", 16, 11, far_below, N, past_bound()[2]));
+    rows.push((16, 11, far_below, past_bound()[2]));
     rows
 }
 
 /// The pairs in a book that is made by some calls.
 pub fn pairs(scene: &[u8]) -> Vec<Pair> {
-    let before = with_side_1_full(scene);
-    let rows_of_4 = [
-        ("washup", 3, outside(fits(3, 0)), N),
-        ("washup", 5, fits(3, 0), 0),
-        ("washup", 8, washup(NEVER, 76, 0, 0, true), N),
-        ("washup", 12, fits(3, 63), N),
-        ("washup", 16, fits(BEFORE, 0), N),
+    let full = [Entry::open(SIDE_1_FULL), Entry::amount(SIDE_1_FULL, 1, 1, 5, MOST_CENTS)];
+    let before = after(scene, &full, N);
+    let of_4 = [
+        (3, outside(fits(3, 0))),
+        (5, fits(3, 0)),
+        (8, washup(NEVER, 76, 0, 0, true)),
+        (12, fits(3, 63)),
+        (16, fits(BEFORE, 0)),
     ];
-    let rows = [rows_of_5(), rows_of_3(), rows_of_the_operator()].concat();
-    let mut pairs: Vec<Pair> = rows.into_iter().map(|row| pair(&before, row)).collect();
-    pairs.extend(with_refused_books(&before, &rows_of_4));
-    pairs
+    let others = [rows_of_3(), rows_of_the_operator()].concat();
+    pairs_after(&before, &of_4, &rows_of_5(), &others)
 }
