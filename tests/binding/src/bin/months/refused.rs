@@ -119,11 +119,14 @@ fn late(month: &Month, right: &Arguments) -> Vec<Case> {
     ]
 }
 
+/// Puts an export, and says whether it takes the arguments.
+type Take = fn(&mut Arguments) -> bool;
+
 impl Count {
     /// Whether each export takes the arguments, and whether it writes.
     fn answers(&mut self, (name, with, refuse): &Case) {
         let [notice, settlement, late] = *refuse;
-        let exports: [(&str, bool, fn(&mut Arguments) -> bool); 4] = [
+        let exports: [(&str, bool, Take); 4] = [
             ("notice", notice, Arguments::notice),
             ("scaled", settlement, Arguments::scaled),
             ("settle", settlement, |with| with.settle() <= PLACES as u64),
