@@ -13,7 +13,7 @@ fn washup(period: u32, participant: u8, side: u8, kwh: (u32, u32), price: u32) -
 }
 
 impl Case {
-    /// Payer 0 pays so many cents, which is all that it owes, and participant 1 gets them.
+    /// Payer 0 pays so many cents, which is all that is payable by it, and participant 1 gets them.
     fn paid_to_1(self, period: u32, cents: u64) -> Case {
         self.stand([Entry::notice(period)])
             .refused(Entry::receipt(period, 0, cents + 1), RECEIPT_ABOVE)

@@ -33,10 +33,10 @@ impl Account {
         Account { sums: Sums::new(n), notice: None, settled: None, received, late, paid }
     }
 
-    /// What a payer has in arrears; 0 before settlement.
+    /// What a payer has in arrears; 0 before settlement. Late receipts above it were told when they came.
     pub fn arrears_of(&self, payer: usize) -> u128 {
         let arrears = self.settled.as_ref().map_or(0, |step| step.arrears[payer]);
-        arrears.saturating_sub(self.late[payer])
+        arrears - self.late[payer]
     }
 
     pub fn held(&self) -> u128 {

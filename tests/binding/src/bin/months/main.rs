@@ -13,7 +13,7 @@ use comparison::generate::months;
 use comparison::report::{grouped, Part};
 use std::process::ExitCode;
 
-/// Months of each of the two kinds. Of the second each n from 1 to 64 has as many, but for one.
+/// Months of each of the two kinds: of random n, and of each n from 1 to 64 in turn.
 const MONTHS: u64 = 20_000;
 
 fn compare(details: bool) -> bool {
