@@ -28,7 +28,7 @@ pub fn purse() -> Case {
 /// Washups (02, e) of period 30. Energy is 2,300 cents by 0 and 2,300 to 1. Up from 100 to 300 kWh at
 /// 100: 34 less 12, 22 by 0. Down from 80 to 60 at 20,000: 1,380 less 1,840, so 460 by 1, though side
 /// 1 is stated. 50 and 51 at 10 are both 1 cent. Period 5 is 25 below. Then 230 by 2 and, back, 230
-/// to 2; 482 in tier 1 make both sides 3,012. Payer 0 owes 2,322 net, and g is 2,530: retention is
+/// to 2; 482 in tier 1 make both sides 3,012. For payer 0 s is 2,322 and g 2,530: retention is
 /// 2,111 for 1 and 212 for 2, payable are 2,322, 460 − 2,300 + 2,111 and 0, and claims 0, 2,111, 482.
 pub fn washup() -> Case {
     Case::new("the example feed", 3)

@@ -77,8 +77,8 @@ fn most_leftover_cents() -> Case {
     )
 }
 
-/// n − 1 leftover cents: a cent is owing to each, to payer 0 too, which has 2 payable and pays 1. 2 of 3
-/// are 2/3 each, so that V is 1, 1 and 0. Claims are 0, 1 and 1: the cent of 0 lowers what it owes.
+/// n − 1 leftover cents: a cent is owing to each. To payer 0 too, which lowers what is payable by it to 2,
+/// of which it pays 1. 2 of 3 are 2/3 each, so that V is 1, 1 and 0. Claims are 0, 1 and 1.
 fn a_cent_for_the_payer() -> Case {
     noticed("a cent for the payer", 3, &[(0, 3)], &[(0, 2, 1), (1, 2, 1), (2, 2, 1)])
         .settled(0, 1, [0, 1, 0], 0)

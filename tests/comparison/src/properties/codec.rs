@@ -1,4 +1,4 @@
-//! Reading and writing undo each other, over random entries and random bytes.
+//! Reading and writing undo each other, over random entries, and over such with a byte changed.
 
 use crate::generate::random::Random;
 use reckoning::rules::codec::*;
