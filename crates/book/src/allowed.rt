@@ -1,6 +1,6 @@
 // The values that fields may have, tested for reader, writer and book alike.
 ghost use Rattle.std.specs.Prelude.{◌≡◌};
-ghost use Rattle.book.specs.layouts.Allowed.{allowed, none, tierOutside, centsOutside, energyOutside, amountOutside, receiptOutside, washupOutside};
+ghost use Rattle.book.specs.layouts.Allowed.{allowed, none, tier_outside, cents_outside, energy_outside, amount_outside, receipt_outside, washup_outside};
 
 use crate::entries::Entry;
 use exact::PLACES;
@@ -17,7 +17,7 @@ const PRICE_LIMIT: u32 = 10_000_000;
 const CENTS_LIMIT: u64 = 10_000_000_000_000;
 
 fn tier_outside(side: u8, tier: u8) -> bool
-    ensures { result ≡ tierOutside side tier }
+    ensures { result ≡ tier_outside side tier }
 {
     if side == 0 {
         return tier != 0;
@@ -29,7 +29,7 @@ fn tier_outside(side: u8, tier: u8) -> bool
 }
 
 fn energy_allowed(participant: u8, side: u8, quantity: u32, price: u32) -> bool
-    ensures { result ≡ none (energyOutside participant side quantity price) }
+    ensures { result ≡ none (energy_outside participant side quantity price) }
 {
     if PARTICIPANTS <= participant {
         return false;
@@ -44,7 +44,7 @@ fn energy_allowed(participant: u8, side: u8, quantity: u32, price: u32) -> bool
 }
 
 fn cents_allowed(cents: u64) -> bool
-    ensures { result ≡ none (centsOutside cents) }
+    ensures { result ≡ none (cents_outside cents) }
 {
     if cents == 0 {
         return false;
@@ -53,7 +53,7 @@ fn cents_allowed(cents: u64) -> bool
 }
 
 fn amount_allowed(participant: u8, side: u8, tier: u8, cents: u64) -> bool
-    ensures { result ≡ none (amountOutside participant side tier cents) }
+    ensures { result ≡ none (amount_outside participant side tier cents) }
 {
     if PARTICIPANTS <= participant {
         return false;
@@ -69,7 +69,7 @@ fn amount_allowed(participant: u8, side: u8, tier: u8, cents: u64) -> bool
 
 // Of a receipt, and of a purse entry.
 fn receipt_allowed(participant: u8, cents: u64) -> bool
-    ensures { result ≡ none (receiptOutside participant cents) }
+    ensures { result ≡ none (receipt_outside participant cents) }
 {
     if PARTICIPANTS <= participant {
         return false;
@@ -78,7 +78,7 @@ fn receipt_allowed(participant: u8, cents: u64) -> bool
 }
 
 fn washup_allowed(participant: u8, side: u8, old: u32, new: u32, price: u32) -> bool
-    ensures { result ≡ none (washupOutside participant side old new price) }
+    ensures { result ≡ none (washup_outside participant side old new price) }
 {
     if QUANTITY_LIMIT < old {
         return false;

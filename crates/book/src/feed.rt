@@ -1,6 +1,6 @@
 // The feed reader: the bytes lent to it, and the place of the next entry.
 ghost use Rattle.std.specs.Prelude.{◌≡◌};
-ghost use Rattle.book.specs.layouts.Reading.{reading, readOutcome};
+ghost use Rattle.book.specs.layouts.Reading.{reading, read_outcome};
 
 use crate::reader::{Reading, read_entry};
 
@@ -18,14 +18,14 @@ pub fn feed_at<'a>(bytes: &'a [u8], place: usize) -> Feed<'a>
 
 // The work is left to `read_entry`, whose parameters are plain: a function over a feed reader is proved by hand.
 pub fn next_entry<'a>(feed: Feed<'a>) -> Reading
-    ensures { readOutcome feed.entry.place result ≡ reading feed.entry.bytes.now feed.entry.place }
+    ensures { read_outcome feed.entry.place result ≡ reading feed.entry.bytes.now feed.entry.place }
 {
     read_entry(feed.bytes, feed.place)
 }
 
 // For callers that keep the place themselves, so that they hold no feed reader and need no proof by hand.
 pub fn read_next(bytes: &[u8], place: usize) -> Reading
-    ensures { readOutcome place result ≡ reading bytes.now place }
+    ensures { read_outcome place result ≡ reading bytes.now place }
 {
     next_entry(feed_at(bytes, place))
 }

@@ -4,7 +4,7 @@ ghost use Rattle.exact.specs.Rows.{places};
 ghost use Rattle.book.specs.Checks.{refusal};
 ghost use Rattle.book.specs.rules.Answers.{number_of};
 ghost use Rattle.book.specs.rules.State.{pack};
-ghost use Rattle.book.specs.rules.Makings.{made, makingChecks, groupingOf, kept, noMaking, emptyState, separate};
+ghost use Rattle.book.specs.rules.Makings.{made, making_checks, grouping_of, kept, no_making, empty_state, separate};
 
 use crate::answers::{Answer, is_accepted};
 use crate::limits::{Limits, is_within};
@@ -50,7 +50,7 @@ pub fn separate(n: usize, limits: Limits) -> Making
 
 // 4, 3.
 fn making_answer(m: Making) -> Answer
-    ensures { number_of result ≡ refusal (makingChecks m) }
+    ensures { number_of result ≡ refusal (making_checks m) }
 {
     if !is_within(m.limits.participants, PLACES) {
         return Answer::NoParticipants;
@@ -70,7 +70,7 @@ fn making_answer(m: Making) -> Answer
 
 // A book without periods, its purses empty.
 fn empty_book(m: Making) -> Book
-    ensures { result ≡ pack (emptyState m) }
+    ensures { result ≡ pack (empty_state m) }
 {
     let free = fresh_period(0);
     let grouping = m.grouping;
@@ -90,7 +90,7 @@ fn empty_book(m: Making) -> Book
 // The groups that the book keeps: 0 from n on.
 fn grouping_of(m: Making) -> Grouping
     requires { m.n ≤ places }
-    ensures { result ≡ groupingOf m }
+    ensures { result ≡ grouping_of m }
 {
     let given = m.grouping;
     let groups = given.groups;
@@ -118,7 +118,7 @@ fn kept(m: Making) -> Making
 
 // What a refused book has: no participants, and limits of 0.
 fn no_making() -> Making
-    ensures { result ≡ noMaking }
+    ensures { result ≡ no_making }
 {
     let none = Grouping {
         groups: [0; PLACES],

@@ -1,15 +1,15 @@
 // One period: its stage, its arrears, and one just opened.
 ghost use Rattle.std.specs.Prelude.{◌≡◌, true, ◌≤◌, ◌<◌, ◌^◌};
 ghost use Rattle.exact.specs.Rows.{places, at, sum};
-ghost use Rattle.book.specs.rules.Periods.{isOpened, isNoticed, isSettled, fresh, leaves};
-ghost use Rattle.book.specs.rules.State.{arrearsBefore};
+ghost use Rattle.book.specs.rules.Periods.{is_opened, is_noticed, is_settled, fresh, leaves};
+ghost use Rattle.book.specs.rules.State.{arrears_before};
 
 use crate::{Period, SIDES, Stage};
 use exact::{PLACES, total};
 use settlement::TIERS;
 
 pub fn is_opened(s: Stage) -> bool
-    ensures { result ≡ isOpened s }
+    ensures { result ≡ is_opened s }
 {
     match s {
         Stage::Opened => true,
@@ -19,7 +19,7 @@ pub fn is_opened(s: Stage) -> bool
 }
 
 pub fn is_noticed(s: Stage) -> bool
-    ensures { result ≡ isNoticed s }
+    ensures { result ≡ is_noticed s }
 {
     match s {
         Stage::Opened => false,
@@ -29,7 +29,7 @@ pub fn is_noticed(s: Stage) -> bool
 }
 
 pub fn is_settled(s: Stage) -> bool
-    ensures { result ≡ isSettled s }
+    ensures { result ≡ is_settled s }
 {
     match s {
         Stage::Opened => false,
@@ -59,7 +59,7 @@ pub fn fresh_period(number: u32) -> Period
 // Whether the period is settled and earlier than a number, and i has arrears in it.
 pub fn has_arrears_before(p: Period, i: usize, number: u32) -> bool
     requires { i < places }
-    ensures { result ≡ arrearsBefore i number p }
+    ensures { result ≡ arrears_before i number p }
 {
     if p.number < number {
         let s = p.stage;
@@ -72,7 +72,7 @@ pub fn has_arrears_before(p: Period, i: usize, number: u32) -> bool
 
 // Whether the period is settled and has no arrears.
 pub fn is_leaving(p: Period, n: usize) -> bool
-    requires { (n ≤ places) × (isSettled p.stage ≡ true → sum (at p.arrears) n < 2 ^ 64) }
+    requires { (n ≤ places) × (is_settled p.stage ≡ true → sum (at p.arrears) n < 2 ^ 64) }
     ensures { result ≡ leaves n p }
 {
     let s = p.stage;

@@ -1,8 +1,8 @@
 // The places of a book: searched, filled and freed.
 ghost use Rattle.std.specs.Prelude.{◌≡◌, ◌<◌, min, [], ◌∷◌, length};
 ghost use Rattle.exact.specs.Rows.{places};
-ghost use Rattle.book.specs.rules.Limits.{periodPlaces};
-ghost use Rattle.book.specs.rules.State.{view, pack, find, heldIn, heldBy, earlierArrears, removed, added, centsHeld};
+ghost use Rattle.book.specs.rules.Limits.{period_places};
+ghost use Rattle.book.specs.rules.State.{view, pack, find, held_in, held_by, earlier_arrears, removed, added, cents_held};
 ghost use Rattle.book.specs.rules.Valid.{Valid};
 
 use crate::periods::{fresh_period, has_arrears_before};
@@ -10,7 +10,7 @@ use crate::{Book, PERIOD_PLACES, Period};
 
 // The cents that the book holds.
 pub fn held(b: Book) -> u64
-    ensures { result ≡ centsHeld b }
+    ensures { result ≡ cents_held b }
 {
     b.held
 }
@@ -33,7 +33,7 @@ pub fn place(b: Book, number: u32) -> usize
 // Whether an earlier settled period has arrears of i.
 pub fn has_earlier_arrears(b: Book, i: usize, number: u32) -> bool
     requires { Valid b × (i < places) }
-    ensures { result ≡ earlierArrears i number (view b).periods }
+    ensures { result ≡ earlier_arrears i number (view b).periods }
 {
     for k in 0..PERIOD_PLACES {
         let p = b.periods[k];
@@ -46,7 +46,7 @@ pub fn has_earlier_arrears(b: Book, i: usize, number: u32) -> bool
 
 // One more period, the last, of the highest number.
 pub fn with_period(b: Book, p: Period) -> Book
-    requires { Valid b × (length (view b).periods < periodPlaces) × (heldIn b.n (p ∷ []) ≡ 0) }
+    requires { Valid b × (length (view b).periods < period_places) × (held_in b.n (p ∷ []) ≡ 0) }
     ensures { result ≡ pack (added (view b) p) }
 {
     let at = b.count;
@@ -59,7 +59,7 @@ pub fn with_period(b: Book, p: Period) -> Book
 
 // A period leaves: the later ones move down, and the last place is not in use.
 pub fn without_period(b: Book, j: usize, held: u64) -> Book
-    requires { Valid b × (j < length (view b).periods) × (held ≡ heldBy (removed (view b) j)) }
+    requires { Valid b × (j < length (view b).periods) × (held ≡ held_by (removed (view b) j)) }
     ensures { result ≡ pack (removed (view b) j) }
 {
     let mut ps = b.periods;

@@ -2,12 +2,12 @@
 ghost use Rattle.std.specs.Prelude.{◌≡◌, false, cond, ℕ, ◌-◌, ◌≤◌, ◌<◌, min, ltb};
 ghost use Rattle.exact.specs.Rows.{places, at, cells};
 ghost use Rattle.book.specs.Checks.{refusal};
-ghost use Rattle.book.specs.layouts.Allowed.{centsLimit};
+ghost use Rattle.book.specs.layouts.Allowed.{cents_limit};
 ghost use Rattle.book.specs.rules.Answers.{number_of};
-ghost use Rattle.book.specs.rules.Periods.{isNoticed, isSettled};
-ghost use Rattle.book.specs.rules.Purses.{withDrawn, pursesLeft};
-ghost use Rattle.book.specs.rules.Refusals.{purseChecks};
-ghost use Rattle.book.specs.rules.State.{view, arrearsBefore, earlierArrears};
+ghost use Rattle.book.specs.rules.Periods.{is_noticed, is_settled};
+ghost use Rattle.book.specs.rules.Purses.{with_drawn, purses_left};
+ghost use Rattle.book.specs.rules.Refusals.{purse_checks};
+ghost use Rattle.book.specs.rules.State.{view, arrears_before, earlier_arrears};
 ghost use Rattle.book.specs.rules.Valid.{Sound, Valid};
 
 use crate::answers::Answer;
@@ -19,8 +19,8 @@ const PURSE_LIMIT: u64 = 10_000_000_000_000;
 
 // 12, 15: cents for the purse of i.
 pub fn purse_answer(b: Book, i: usize, cents: u64) -> Answer
-    requires { Valid b × (i < places) × (cents ≤ centsLimit) }
-    ensures { number_of result ≡ refusal (purseChecks (view b) i cents) }
+    requires { Valid b × (i < places) × (cents ≤ cents_limit) }
+    ensures { number_of result ≡ refusal (purse_checks (view b) i cents) }
 {
     if b.n <= i {
         return Answer::NotAParticipant;
@@ -34,7 +34,7 @@ pub fn purse_answer(b: Book, i: usize, cents: u64) -> Answer
 
 // Whether a period bars those who have arrears in it from drawing: it is settled, and earlier than a number.
 fn is_barring(p: Period, number: u32) -> bool
-    ensures { result ≡ cond (ltb p.number number) (isSettled p.stage) false }
+    ensures { result ≡ cond (ltb p.number number) (is_settled p.stage) false }
 {
     if p.number < number {
         let s = p.stage;
@@ -58,7 +58,7 @@ fn unless_barred(barring: bool, arrears: u64, cents: u64) -> u64
 // The purses, with 0 for those who have arrears in the period, if it is settled and earlier than a number.
 fn unbarred(purses: Row, p: Period, number: u32, n: usize) -> Row
     requires { n ≤ places }
-    ensures { result ≡ cells (λ i. cond (arrearsBefore i number p) 0 (at purses i)) n }
+    ensures { result ≡ cells (λ i. cond (arrears_before i number p) 0 (at purses i)) n }
 {
     let barring = is_barring(p, number);
     let arrears = p.arrears;
@@ -72,7 +72,7 @@ fn unbarred(purses: Row, p: Period, number: u32, n: usize) -> Row
 // The purses, but for those that a period of the book bars.
 fn unbarred_purses(b: Book, number: u32) -> Row
     requires { Valid b }
-    ensures { (i : ℕ) → i < b.n → at result i ≡ cond (earlierArrears i number (view b).periods) 0 (at b.purses i) }
+    ensures { (i : ℕ) → i < b.n → at result i ≡ cond (earlier_arrears i number (view b).periods) 0 (at b.purses i) }
 {
     let mut purses = b.purses;
     for k in 0..PERIOD_PLACES {
@@ -87,7 +87,7 @@ fn unbarred_purses(b: Book, number: u32) -> Row
 // periods are looked at only where there is something to draw.
 pub fn drawable_purses(b: Book, number: u32) -> Row
     requires { Valid b }
-    ensures { (i : ℕ) → i < b.n → at result i ≡ cond (earlierArrears i number (view b).periods) 0 (at b.purses i) }
+    ensures { (i : ℕ) → i < b.n → at result i ≡ cond (earlier_arrears i number (view b).periods) 0 (at b.purses i) }
 {
     let purses = b.purses;
     if total(purses, b.n) == 0 {
@@ -107,7 +107,7 @@ pub struct Drawing {
 pub fn draw(p: Period, purses: Row, drawable: Row, n: usize) -> Drawing
     requires { Sound n p }
     ensures { let drawn : ℕ → ℕ = λ i. min (at drawable i) (at p.payable i - at p.received i) in
-        (result.period ≡ cond (isNoticed p.stage) (withDrawn n drawn p) p) × (result.purses ≡ cond (isNoticed p.stage) (pursesLeft n drawn purses) purses) }
+        (result.period ≡ cond (is_noticed p.stage) (with_drawn n drawn p) p) × (result.purses ≡ cond (is_noticed p.stage) (purses_left n drawn purses) purses) }
 {
     let s = p.stage;
     if !is_noticed(s) {

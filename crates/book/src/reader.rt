@@ -1,8 +1,8 @@
 // Entries read at a place of lent bytes.
 ghost use Rattle.std.specs.Prelude.{◌≡◌, ◌+◌, ◌≤◌, length, false};
 ghost use Rattle.book.specs.layouts.Fields.{fields_at};
-ghost use Rattle.book.specs.layouts.Entries.{bodyLength, unknown, layout, entry_of};
-ghost use Rattle.book.specs.layouts.Reading.{reading, readOutcome};
+ghost use Rattle.book.specs.layouts.Entries.{body_length, unknown, layout, entry_of};
+ghost use Rattle.book.specs.layouts.Reading.{reading, read_outcome};
 
 use crate::allowed::is_allowed;
 use crate::entries::{BODY_LENGTHS, Entry, is_unknown};
@@ -98,7 +98,7 @@ fn washup_at(s: &[u8], body: usize) -> Entry
 
 // The entry of a known kind, of whose body no byte is missing.
 fn body_at(s: &[u8], kind: usize, body: usize) -> Entry
-    requires { (unknown kind ≡ false) × (body + bodyLength kind ≤ length s.now) }
+    requires { (unknown kind ≡ false) × (body + body_length kind ≤ length s.now) }
     ensures { result ≡ entry_of kind (fields_at (layout kind) s.now body) }
 {
     match kind {
@@ -121,7 +121,7 @@ fn body_at(s: &[u8], kind: usize, body: usize) -> Entry
 
 // The entry at a place, which may lie past the end.
 pub fn read_entry(s: &[u8], place: usize) -> Reading
-    ensures { readOutcome place result ≡ reading s.now place }
+    ensures { read_outcome place result ≡ reading s.now place }
 {
     if s.len() <= place {
         return Reading::Short;

@@ -1,11 +1,11 @@
 // What an entry is answered by the period that it names, and an opening by the book.
 ghost use Rattle.std.specs.Prelude.{◌≡◌, true, ◌≤◌, ◌<◌};
 ghost use Rattle.exact.specs.Rows.{places};
-ghost use Rattle.settlement.specs.Month.{sideLimit};
+ghost use Rattle.settlement.specs.Month.{side_limit};
 ghost use Rattle.book.specs.Checks.{refusal};
 ghost use Rattle.book.specs.layouts.Allowed.{allowed};
 ghost use Rattle.book.specs.rules.State.{view};
-ghost use Rattle.book.specs.rules.Refusals.{receivable, sideChecks, openChecks, noticeChecks, receiptChecks, settleChecks, periodChecks};
+ghost use Rattle.book.specs.rules.Refusals.{receivable, side_checks, open_checks, notice_checks, receipt_checks, settle_checks, period_checks};
 ghost use Rattle.book.specs.rules.Valid.{Sound, Valid};
 ghost use Rattle.book.specs.rules.Answers.{number_of};
 
@@ -26,8 +26,8 @@ pub fn amount_answer(
     misdated: bool,
     cents: u64,
 ) -> Answer
-    requires { (total ≤ sideLimit) × (cents ≤ sideLimit) }
-    ensures { number_of result ≡ refusal (sideChecks n stage total i misdated cents) }
+    requires { (total ≤ side_limit) × (cents ≤ side_limit) }
+    ensures { number_of result ≡ refusal (side_checks n stage total i misdated cents) }
 {
     if n <= i {
         return Answer::NotAParticipant;
@@ -47,7 +47,7 @@ pub fn amount_answer(
 // 6, 7: an opening of period k.
 pub fn opening_answer(b: Book, k: u32) -> Answer
     requires { Valid b }
-    ensures { number_of result ≡ refusal (openChecks (view b) k) }
+    ensures { number_of result ≡ refusal (open_checks (view b) k) }
 {
     if k <= b.highest {
         return Answer::NotAbove;
@@ -61,7 +61,7 @@ pub fn opening_answer(b: Book, k: u32) -> Answer
 // 9, 10.
 fn notice_answer(p: Period, n: usize) -> Answer
     requires { Sound n p }
-    ensures { number_of result ≡ refusal (noticeChecks n p) }
+    ensures { number_of result ≡ refusal (notice_checks n p) }
 {
     let s = p.stage;
     if !is_opened(s) {
@@ -88,7 +88,7 @@ fn receivable_from(p: Period, i: usize) -> u64
 // 12, 9, 14, 13.
 fn receipt_answer(p: Period, n: usize, i: usize, barred: bool, cents: u64) -> Answer
     requires { i < places }
-    ensures { number_of result ≡ refusal (receiptChecks n barred p i cents) }
+    ensures { number_of result ≡ refusal (receipt_checks n barred p i cents) }
 {
     if n <= i {
         return Answer::NotAParticipant;
@@ -108,7 +108,7 @@ fn receipt_answer(p: Period, n: usize, i: usize, barred: bool, cents: u64) -> An
 
 // 9.
 fn settle_answer(p: Period) -> Answer
-    ensures { number_of result ≡ refusal (settleChecks p) }
+    ensures { number_of result ≡ refusal (settle_checks p) }
 {
     let s = p.stage;
     if is_noticed(s) {
@@ -120,7 +120,7 @@ fn settle_answer(p: Period) -> Answer
 // The checks of each kind on its period; `barred` is whether another period refuses a receipt (14).
 pub fn period_answer(p: Period, n: usize, e: Entry, barred: bool) -> Answer
     requires { Sound n p × (allowed e ≡ true) }
-    ensures { number_of result ≡ refusal (periodChecks n barred e p) }
+    ensures { number_of result ≡ refusal (period_checks n barred e p) }
 {
     if is_amount(e) {
         let a = addition_of(e);

@@ -2,11 +2,11 @@
 ghost use Rattle.std.specs.Prelude.{◌≡◌, true, false, ◌≤◌, ◌<◌, length};
 ghost use Rattle.exact.specs.Rows.{places};
 ghost use Rattle.book.specs.layouts.Allowed.{allowed};
-ghost use Rattle.book.specs.rules.Kinds.{isOpen, isPurse};
+ghost use Rattle.book.specs.rules.Kinds.{is_open, is_purse};
 ghost use Rattle.book.specs.rules.Periods.{fresh, zeros};
 ghost use Rattle.book.specs.rules.State.{view, pack, added};
 ghost use Rattle.book.specs.rules.Refusals.{barring};
-ghost use Rattle.book.specs.rules.Step.{payoutWords, reply};
+ghost use Rattle.book.specs.rules.Step.{payout_words, reply};
 ghost use Rattle.book.specs.rules.Answers.{replied};
 ghost use Rattle.book.specs.rules.Valid.{Valid};
 ghost use Rattle.book.specs.inner.Ways.{Entered};
@@ -59,7 +59,7 @@ fn refused(answer: Answer, book: Book) -> Applied
 // Opens period k, where 4 to 7 are passed, and pays nothing.
 pub fn with_opened(b: Book, k: u32, words: &mut [u64]) -> Book
     requires { Valid b × (b.n ≤ length words.old) × (length (view b).periods < b.limits.periods) }
-    ensures { (result ≡ pack (added (view b) (fresh k))) × (words.new ≡ payoutWords b.n (zeros places) words.old) }
+    ensures { (result ≡ pack (added (view b) (fresh k))) × (words.new ≡ payout_words b.n (zeros places) words.old) }
 {
     put_cells(words, b.n, [0; PLACES]);
     let p = fresh_period(k);
@@ -68,7 +68,7 @@ pub fn with_opened(b: Book, k: u32, words: &mut [u64]) -> Book
 
 // Opens a period; 4, 5 and 3 are passed.
 fn open_period(b: Book, e: Entry, words: &mut [u64]) -> Applied
-    requires { Valid b × Entered (view b) (record { entry = e; words = words.old }) × (isOpen e ≡ true) }
+    requires { Valid b × Entered (view b) (record { entry = e; words = words.old }) × (is_open e ≡ true) }
     ensures { replied result words.new ≡ reply b (record { entry = e; words = words.old }) }
 {
     let k = period_of(e);
@@ -86,7 +86,7 @@ fn open_period(b: Book, e: Entry, words: &mut [u64]) -> Applied
 
 // Adds to a purse; 4, 5 and 3 are passed.
 fn raise_purse(mut b: Book, e: Entry, words: &mut [u64]) -> Applied
-    requires { Valid b × Entered (view b) (record { entry = e; words = words.old }) × (isOpen e ≡ false) × (isPurse e ≡ true) }
+    requires { Valid b × Entered (view b) (record { entry = e; words = words.old }) × (is_open e ≡ false) × (is_purse e ≡ true) }
     ensures { replied result words.new ≡ reply b (record { entry = e; words = words.old }) }
 {
     let i = purse_of(e);
@@ -107,7 +107,7 @@ fn raise_purse(mut b: Book, e: Entry, words: &mut [u64]) -> Applied
 
 // Changes the period that the entry names; 4, 5 and 3 are passed.
 fn change_named(mut b: Book, e: Entry, words: &mut [u64]) -> Applied
-    requires { Valid b × Entered (view b) (record { entry = e; words = words.old }) × (isOpen e ≡ false) × (isPurse e ≡ false) }
+    requires { Valid b × Entered (view b) (record { entry = e; words = words.old }) × (is_open e ≡ false) × (is_purse e ≡ false) }
     ensures { replied result words.new ≡ reply b (record { entry = e; words = words.old }) }
 {
     let j = place(b, period_of(e));

@@ -1,9 +1,9 @@
 // Entries written into lent bytes.
 ghost use Rattle.std.specs.Prelude.{◌≡◌, ◌+◌, ◌≤◌, length, [], ◌∷◌};
 ghost use Rattle.std.proofs.lemmas.List.Edits.{sets};
-ghost use Rattle.book.specs.layouts.Fields.{bytes, fieldBytes};
+ghost use Rattle.book.specs.layouts.Fields.{bytes, field_bytes};
 ghost use Rattle.book.specs.layouts.Entries.{bytes_of, size};
-ghost use Rattle.book.specs.layouts.Writing.{writing, written, writeOutcome};
+ghost use Rattle.book.specs.layouts.Writing.{writing, written, write_outcome};
 ghost use Rattle.book.specs.declared.entries.Entry.TheVariants.{Energy, Amount, Receipt, Purse, Washup};
 
 use crate::allowed::is_allowed;
@@ -45,7 +45,7 @@ fn put_sided(
     last: Field,
 )
     requires { 7 + next.width + last.width ≤ length out.old }
-    ensures { out.new ≡ sets out.old 0 (kind ∷ fieldBytes (4 ∷ 1 ∷ 1 ∷ next.width ∷ last.width ∷ []) (period ∷ participant ∷ side ∷ next.value ∷ last.value ∷ [])) }
+    ensures { out.new ≡ sets out.old 0 (kind ∷ field_bytes (4 ∷ 1 ∷ 1 ∷ next.width ∷ last.width ∷ []) (period ∷ participant ∷ side ∷ next.value ∷ last.value ∷ [])) }
 {
     put_head(out, kind, period);
     put(out, 5, 1, participant as u64);
@@ -167,7 +167,7 @@ fn put_entry(e: Entry, out: &mut [u8])
 
 // Writes an entry of any field values into the lent bytes, from the first on.
 pub fn write_entry(e: Entry, out: &mut [u8]) -> Writing
-    ensures { (writeOutcome result ≡ writing e (length out.old)) × (out.new ≡ written e out.old) }
+    ensures { (write_outcome result ≡ writing e (length out.old)) × (out.new ≡ written e out.old) }
 {
     if !is_allowed(e) {
         return Writing::Outside;

@@ -12,21 +12,21 @@ module _ {A : Type 0} (P : A → Type 0) {x y : A} where
   cases true h k = h refl
   cases false h k = k refl
 
-  pub cases-le : (a b : ℕ) → (a ≤ b → P x) → (b < a → P y) → P (cond (leb a b) x y)
-  cases-le a b h k = cases (leb a b) (λ e. h (leb-true a b e)) (λ e. k (leb-false a b e))
+  pub cases_le : (a b : ℕ) → (a ≤ b → P x) → (b < a → P y) → P (cond (leb a b) x y)
+  cases_le a b h k = cases (leb a b) (λ e. h (leb-true a b e)) (λ e. k (leb-false a b e))
 
   pub cases_eq : (a b : ℕ) → (a ≡ b → P x) → ((a ≡ b → ⊥) → P y) → P (cond (eqb a b) x y)
   cases_eq a b h k = cases (eqb a b) (λ e. h (eqb-true a b e)) (λ e. k (eqb-false a b e))
 
-pub le-or-lt : (a b : ℕ) → (a ≤ b) ⊎ (b < a)
-le-or-lt a b = go (leb a b) refl
+pub le_or_lt : (a b : ℕ) → (a ≤ b) ⊎ (b < a)
+le_or_lt a b = go (leb a b) refl
   where
     go : (t : Bool) → leb a b ≡ t → (a ≤ b) ⊎ (b < a)
     go true e = inl (leb-true a b e)
     go false e = inr (leb-false a b e)
 
-pub eq-or-ne : (a b : ℕ) → (a ≡ b) ⊎ (a ≡ b → ⊥)
-eq-or-ne a b = go (eqb a b) refl
+pub eq_or_ne : (a b : ℕ) → (a ≡ b) ⊎ (a ≡ b → ⊥)
+eq_or_ne a b = go (eqb a b) refl
   where
     go : (t : Bool) → eqb a b ≡ t → (a ≡ b) ⊎ (a ≡ b → ⊥)
     go true e = inl (eqb-true a b e)

@@ -5,15 +5,15 @@ use native.Mathlib.Nat.{add-mul, mul_comm, mul_right_comm, mul-le-mul, mul-le-mu
 use native.Mathlib.Omega.{arith}
 
 -- a product of which one factor is at most d, at a digit below B
-pub digit-le : {a d k B : ℕ} → a ≤ d → k < B → k * a ≤ B * d
-digit-le h l = mul-le-mul (le_of_lt l) h
+pub digit_le : {a d k B : ℕ} → a ≤ d → k < B → k * a ≤ B * d
+digit_le h l = mul-le-mul (le_of_lt l) h
 
 -- its quotient by d is at most the other factor
 pub quotient_le : {a d : ℕ} (k : ℕ) → a ≤ d → k * a / d ≤ k
 quotient_le {a} {d} k h = div-le_of_le-mul d (omega (arith, mul-le-mul_left k h, mul_comm d k))
 
-pub quotient-lt : (n d y : ℕ) → 0 < d → n < y * d → n / d < y
-quotient-lt n d y some h = (div-lt_iff_lt-mul {k = d} {x = n} {y = y} some).1 h
+pub quotient_lt : (n d y : ℕ) → 0 < d → n < y * d → n / d < y
+quotient_lt n d y some h = (div-lt_iff_lt-mul {k = d} {x = n} {y = y} some).1 h
 
 module _ (a h k d B : ℕ) where
   spread : (h * B + k) * a ≡ h * a / d * B * d + (h * a % d * B + k * a)
@@ -27,8 +27,8 @@ module _ (a h k d B : ℕ) where
         mul_right_comm (h * a / d) d B,
       )
 
-  pub digit-quotient : 0 < d → h * a / d * B + (h * a % d * B + k * a) / d ≡ (h * B + k) * a / d
-  digit-quotient some = sym (ap (λ (y : ℕ). y / d) spread ∙ mul-add-div_right some (h * a / d * B) (h * a % d * B + k * a))
+  pub digit_quotient : 0 < d → h * a / d * B + (h * a % d * B + k * a) / d ≡ (h * B + k) * a / d
+  digit_quotient some = sym (ap (λ (y : ℕ). y / d) spread ∙ mul-add-div_right some (h * a / d * B) (h * a % d * B + k * a))
 
-  pub digit-remainder : (h * a % d * B + k * a) % d ≡ (h * B + k) * a % d
-  digit-remainder = sym (ap (λ (y : ℕ). y % d) spread ∙ mul-add-mod_self_right (h * a / d * B) d (h * a % d * B + k * a))
+  pub digit_remainder : (h * a % d * B + k * a) % d ≡ (h * B + k) * a % d
+  digit_remainder = sym (ap (λ (y : ℕ). y % d) spread ∙ mul-add-mod_self_right (h * a / d * B) d (h * a % d * B + k * a))

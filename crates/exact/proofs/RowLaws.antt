@@ -10,146 +10,146 @@ use native.Mathlib.Numerals.{add-one}
 use lib.Dec.{eqb}
 use lib.ListN.{get_or, take, drop, set, length, length-set, length-append, length-drop, drop_of_length-le, length-replicate, get_or-append, get_or-eq_default, replicate, get_or-replicate}
 use lib.Seq.{take-suc, drop-cons, drop_at, set_at, get_or_at, set-get_or, get_or-set_same, get_or-set_other, ext_get_or}
-use Rattle.exact.proofs.Cases.{cases_eq, le-or-lt, eq-or-ne}
+use Rattle.exact.proofs.Cases.{cases_eq, le_or_lt, eq_or_ne}
 use Rattle.exact.specs.Rows.{places, at, sum, largest, table, filled, cells}
 
 module _ (f : ℕ → ℕ) where
-  pub sum-none : sum f 0 ≡ 0
+  pub sum_none : sum f 0 ≡ 0
   unfolding sum
-  sum-none = refl
+  sum_none = refl
 
-  pub sum-suc : (n : ℕ) → sum f (suc n) ≡ sum f n + f n
+  pub sum_suc : (n : ℕ) → sum f (suc n) ≡ sum f n + f n
   unfolding sum
-  sum-suc n = refl
+  sum_suc n = refl
 
   -- the same, as a loop counts
   pub sum_more : (n : ℕ) → sum f (n + 1) ≡ sum f n + f n
-  sum_more n = rw (add-one n) (sum-suc n)
+  sum_more n = rw (add-one n) (sum_suc n)
 
   -- a part of the terms sums to at most as much as all of them
-  pub sum-part : (n m : ℕ) → n ≤ m → sum f n ≤ sum f m
+  pub sum_part : (n m : ℕ) → n ≤ m → sum f n ≤ sum f m
   unfolding sum
-  sum-part n zero h = rw (let e : n ≡ 0 = omega arith in e) (omega arith)
-  sum-part n (suc m) h =
+  sum_part n zero h = rw (let e : n ≡ 0 = omega arith in e) (omega arith)
+  sum_part n (suc m) h =
       ⊎_elim (λ e. rw e (omega arith))
-      (λ (l : n < suc m). omega (arith, sum-part n m (omega arith)))
+      (λ (l : n < suc m). omega (arith, sum_part n m (omega arith)))
       (eq-or-lt_of_le h)
 
-  pub sum-term : (n i : ℕ) → i < n → f i ≤ sum f n
-  sum-term n i h = omega (arith, sum_more i, sum-part (i + 1) n (omega arith))
+  pub sum_term : (n i : ℕ) → i < n → f i ≤ sum f n
+  sum_term n i h = omega (arith, sum_more i, sum_part (i + 1) n (omega arith))
 
-  pub sum-times : (c n : ℕ) → sum (λ i. f i * c) n ≡ sum f n * c
+  pub sum_times : (c n : ℕ) → sum (λ i. f i * c) n ≡ sum f n * c
   unfolding sum
-  sum-times c zero = omega arith
-  sum-times c (suc n) = omega (arith, sum-times c n)
+  sum_times c zero = omega arith
+  sum_times c (suc n) = omega (arith, sum_times c n)
 
   -- a sum whose later terms are 0
-  pub sum-tail : (k m : ℕ) → k ≤ m → ((i : ℕ) → k ≤ i → i < m → f i ≡ 0) → sum f m ≡ sum f k
+  pub sum_tail : (k m : ℕ) → k ≤ m → ((i : ℕ) → k ≤ i → i < m → f i ≡ 0) → sum f m ≡ sum f k
   unfolding sum
-  sum-tail k zero h z = let e : zero ≡ k = omega arith in ap (sum f) e
-  sum-tail k (suc m) h z =
+  sum_tail k zero h z = let e : zero ≡ k = omega arith in ap (sum f) e
+  sum_tail k (suc m) h z =
       ⊎_elim (λ e. ap (sum f) (sym e))
-      (λ (l : k < suc m). omega (arith, z m (omega arith) (omega arith), sum-tail k m (omega arith) (λ i a b. z i a (omega arith))))
+      (λ (l : k < suc m). omega (arith, z m (omega arith) (omega arith), sum_tail k m (omega arith) (λ i a b. z i a (omega arith))))
       (eq-or-lt_of_le h)
 
 module _ (f g : ℕ → ℕ) where
-  pub sum-cong : (n : ℕ) → ((i : ℕ) → i < n → f i ≡ g i) → sum f n ≡ sum g n
+  pub sum_cong : (n : ℕ) → ((i : ℕ) → i < n → f i ≡ g i) → sum f n ≡ sum g n
   unfolding sum
-  sum-cong zero h = refl
-  sum-cong (suc n) h = omega (arith, h n (omega arith), sum-cong n (λ i k. h i (omega arith)))
+  sum_cong zero h = refl
+  sum_cong (suc n) h = omega (arith, h n (omega arith), sum_cong n (λ i k. h i (omega arith)))
 
   pub sum_mono : (n : ℕ) → ((i : ℕ) → i < n → f i ≤ g i) → sum f n ≤ sum g n
   unfolding sum
   sum_mono zero h = omega arith
   sum_mono (suc n) h = omega (arith, h n (omega arith), sum_mono n (λ i k. h i (omega arith)))
 
-  pub sum-add : (n : ℕ) → sum (λ i. f i + g i) n ≡ sum f n + sum g n
+  pub sum_add : (n : ℕ) → sum (λ i. f i + g i) n ≡ sum f n + sum g n
   unfolding sum
-  sum-add zero = refl
-  sum-add (suc n) = omega (arith, sum-add n)
+  sum_add zero = refl
+  sum_add (suc n) = omega (arith, sum_add n)
 
   -- of two rows, one at most the other: they are equal, or the sum is smaller
-  pub sum-same-or-less : (n : ℕ) → ((i : ℕ) → i < n → f i ≤ g i) → ((i : ℕ) → i < n → f i ≡ g i) ⊎ (sum f n < sum g n)
+  pub sum_same_or_less : (n : ℕ) → ((i : ℕ) → i < n → f i ≤ g i) → ((i : ℕ) → i < n → f i ≡ g i) ⊎ (sum f n < sum g n)
   unfolding sum
-  sum-same-or-less zero h = inl (λ i k. omega arith)
-  sum-same-or-less (suc n) h =
-      go (sum-same-or-less n (λ i k. h i (omega arith))) (eq-or-lt_of_le (h n (omega arith)))
+  sum_same_or_less zero h = inl (λ i k. omega arith)
+  sum_same_or_less (suc n) h =
+      go (sum_same_or_less n (λ i k. h i (omega arith))) (eq-or-lt_of_le (h n (omega arith)))
     where
       go : ((i : ℕ) → i < n → f i ≡ g i) ⊎ (sum f n < sum g n) → (f n ≡ g n) ⊎ (f n < g n)
           → ((i : ℕ) → i < suc n → f i ≡ g i) ⊎ (sum f n + f n < sum g n + g n)
       go (inl e) (inl q) = inl (λ i k.
           ⊎_elim (λ p. ap f (suc_inj p) ∙ q ∙ sym (ap g (suc_inj p))) (λ l. e i (omega arith)) (eq-or-lt_of_le k))
-      go (inl e) (inr q) = inr (omega (arith, sum-cong n e))
+      go (inl e) (inr q) = inr (omega (arith, sum_cong n e))
       go (inr l) q = inr (omega (arith, l, h n (omega arith)))
 
-pub sum-const : (c n : ℕ) → sum (λ i. c) n ≡ n * c
+pub sum_const : (c n : ℕ) → sum (λ i. c) n ≡ n * c
 unfolding sum
-sum-const c zero = omega arith
-sum-const c (suc n) = omega (arith, sum-const c n)
+sum_const c zero = omega arith
+sum_const c (suc n) = omega (arith, sum_const c n)
 
-pub sum-zero : (f : ℕ → ℕ) (n : ℕ) → ((i : ℕ) → i < n → f i ≡ 0) → sum f n ≡ 0
-sum-zero f n h = sum-cong f (λ i. 0) n h ∙ omega (arith, sum-const 0 n)
+pub sum_zero : (f : ℕ → ℕ) (n : ℕ) → ((i : ℕ) → i < n → f i ≡ 0) → sum f n ≡ 0
+sum_zero f n h = sum_cong f (λ i. 0) n h ∙ omega (arith, sum_const 0 n)
 
 -- a sum in which one term alone is not 0
-pub sum-single : (i c n : ℕ) → i < n → sum (λ j. cond (eqb i j) c 0) n ≡ c
+pub sum_single : (i c n : ℕ) → i < n → sum (λ j. cond (eqb i j) c 0) n ≡ c
 unfolding sum
-sum-single i c zero h = absurd (not-suc-le-zero h)
-sum-single i c (suc n) h =
+sum_single i c zero h = absurd (not-suc-le-zero h)
+sum_single i c (suc n) h =
     cases_eq (λ z. sum (λ j. cond (eqb i j) c 0) n + z ≡ c) i n
-    (λ e. omega (arith, sum-zero (λ j. cond (eqb i j) c 0) n (λ j l. cases_eq (λ z. z ≡ 0) i j (λ q. absurd (omega arith)) (λ _. refl))))
-    (λ ne. omega (arith, sum-single i c n (omega arith)))
+    (λ e. omega (arith, sum_zero (λ j. cond (eqb i j) c 0) n (λ j l. cases_eq (λ z. z ≡ 0) i j (λ q. absurd (omega arith)) (λ _. refl))))
+    (λ ne. omega (arith, sum_single i c n (omega arith)))
 
 -- sums over two indices in either order
-pub sum-swap : (f : ℕ → ℕ → ℕ) (n k : ℕ) → sum (λ i. sum (λ t. f t i) k) n ≡ sum (λ t. sum (f t) n) k
+pub sum_swap : (f : ℕ → ℕ → ℕ) (n k : ℕ) → sum (λ i. sum (λ t. f t i) k) n ≡ sum (λ t. sum (f t) n) k
 unfolding sum
-sum-swap f n zero = omega (arith, sum-const 0 n)
-sum-swap f n (suc k) = omega (arith, sum-add (λ i. sum (λ t. f t i) k) (f k) n, sum-swap f n k)
+sum_swap f n zero = omega (arith, sum_const 0 n)
+sum_swap f n (suc k) = omega (arith, sum_add (λ i. sum (λ t. f t i) k) (f k) n, sum_swap f n k)
 
 module _ (f : ℕ → ℕ) where
-  pub largest-none : largest f 0 ≡ 0
+  pub largest_none : largest f 0 ≡ 0
   unfolding largest
-  largest-none = refl
+  largest_none = refl
 
-  pub largest-more : (n : ℕ) → largest f (n + 1) ≡ max (largest f n) (f n)
+  pub largest_more : (n : ℕ) → largest f (n + 1) ≡ max (largest f n) (f n)
   unfolding largest
-  largest-more n = rw add-one
+  largest_more n = rw add-one
 
-  pub largest-le : (c n : ℕ) → ((i : ℕ) → i < n → f i ≤ c) → largest f n ≤ c
+  pub largest_le : (c n : ℕ) → ((i : ℕ) → i < n → f i ≤ c) → largest f n ≤ c
   unfolding largest
-  largest-le c zero h = omega arith
-  largest-le c (suc n) h = max-le (largest-le c n (λ i k. h i (omega arith))) (h n (omega arith))
+  largest_le c zero h = omega arith
+  largest_le c (suc n) h = max-le (largest_le c n (λ i k. h i (omega arith))) (h n (omega arith))
 
-  pub largest-term : (n i : ℕ) → i < n → f i ≤ largest f n
+  pub largest_term : (n i : ℕ) → i < n → f i ≤ largest f n
   unfolding largest
-  largest-term zero i h = absurd (not-suc-le-zero h)
-  largest-term (suc n) i h =
+  largest_term zero i h = absurd (not-suc-le-zero h)
+  largest_term (suc n) i h =
       ⊎_elim (λ (e : i ≡ n). rw e (omega arith))
-      (λ (l : i < n). omega (arith, largest-term n i l))
+      (λ (l : i < n). omega (arith, largest_term n i l))
       (eq-or-lt_of_le (le_of_suc-le-suc h))
 
-  pub largest-cong : (g : ℕ → ℕ) (n : ℕ) → ((i : ℕ) → i < n → f i ≡ g i) → largest f n ≡ largest g n
+  pub largest_cong : (g : ℕ → ℕ) (n : ℕ) → ((i : ℕ) → i < n → f i ≡ g i) → largest f n ≡ largest g n
   unfolding largest
-  largest-cong g zero h = refl
-  largest-cong g (suc n) h = rw (largest-cong g n (λ k l. h k (omega arith)), h n (omega arith))
+  largest_cong g zero h = refl
+  largest_cong g (suc n) h = rw (largest_cong g n (λ k l. h k (omega arith)), h n (omega arith))
 
 module _ {A : Type 0} (f : ℕ → A) where
-  table-length : (n : ℕ) → length (table f n) ≡ n
+  table_length : (n : ℕ) → length (table f n) ≡ n
   unfolding table
-  table-length zero = refl
-  table-length (suc n) = length-append (table f n) (f n ∷ []) ∙ rw (table-length n) (add-one n)
+  table_length zero = refl
+  table_length (suc n) = length-append (table f n) (f n ∷ []) ∙ rw (table_length n) (add-one n)
 
   table_at : (n i : ℕ) (d : A) → i < n → get_or (table f n) i d ≡ f i
   unfolding table
   table_at zero i d h = absurd (not-suc-le-zero h)
   table_at (suc n) i d h =
-      ⊎_elim (λ (e : i ≡ n). rw e (get_or_at (table f n) (f n) [] d n (table-length n)))
-      (λ (l : i < n). get_or-append (table f n) (f n ∷ []) d i (rw table-length l) ∙ table_at n i d l)
+      ⊎_elim (λ (e : i ≡ n). rw e (get_or_at (table f n) (f n) [] d n (table_length n)))
+      (λ (l : i < n). get_or-append (table f n) (f n ∷ []) d i (rw table_length l) ∙ table_at n i d l)
       (eq-or-lt_of_le (le_of_suc-le-suc h))
 
-  table-cong : (g : ℕ → A) (n : ℕ) → ((i : ℕ) → i < n → f i ≡ g i) → table f n ≡ table g n
+  table_cong : (g : ℕ → A) (n : ℕ) → ((i : ℕ) → i < n → f i ≡ g i) → table f n ≡ table g n
   unfolding table
-  table-cong g zero h = refl
-  table-cong g (suc n) h = rw (table-cong g n (λ k l. h k (omega arith)), h n (omega arith))
+  table_cong g zero h = refl
+  table_cong g (suc n) h = rw (table_cong g n (λ k l. h k (omega arith)), h n (omega arith))
 
   -- before the first turn of a loop that fills a list, and a turn of it; z is any element
   pub filled_none : (d : List A) → d ≡ filled f 0 d
@@ -160,107 +160,107 @@ module _ {A : Type 0} (f : ℕ → A) where
   unfolding table filled
   filled_more z n d h =
       rw (add-one, drop-cons d n z h)
-      (set_at (table f n) (get_or d n z) (drop (suc n) d) (f n) n (table-length n) ∙ sym (append_assoc (table f n) (f n ∷ []) (drop (suc n) d)))
+      (set_at (table f n) (get_or d n z) (drop (suc n) d) (f n) n (table_length n) ∙ sym (append_assoc (table f n) (f n ∷ []) (drop (suc n) d)))
 
-  pub filled-length : (n : ℕ) (d : List A) → n ≤ length d → length (filled f n d) ≡ length d
+  pub filled_length : (n : ℕ) (d : List A) → n ≤ length d → length (filled f n d) ≡ length d
   unfolding filled
-  filled-length n d h = omega (arith, length-append (table f n) (drop n d), table-length n, length-drop n d)
+  filled_length n d h = omega (arith, length-append (table f n) (drop n d), table_length n, length-drop n d)
 
   pub filled_at : (n i : ℕ) (d : List A) (z : A) → i < n → get_or (filled f n d) i z ≡ f i
   unfolding filled
   filled_at n i d z h =
-      get_or-append (table f n) (drop n d) z i (rw table-length h) ∙ table_at n i z h
+      get_or-append (table f n) (drop n d) z i (rw table_length h) ∙ table_at n i z h
 
   -- what a list has already may be put into it again
-  filled-same : (z : A) (n : ℕ) (d : List A) → n ≤ length d → ((i : ℕ) → i < n → f i ≡ get_or d i z) → filled f n d ≡ d
-  filled-same z zero d h e = sym (filled_none d)
-  filled-same z (suc n) d h e =
+  filled_same : (z : A) (n : ℕ) (d : List A) → n ≤ length d → ((i : ℕ) → i < n → f i ≡ get_or d i z) → filled f n d ≡ d
+  filled_same z zero d h e = sym (filled_none d)
+  filled_same z (suc n) d h e =
       rw (add-one n) at (sym (filled_more z n d h))
-      ∙ rw (filled-same z n d (omega arith) (λ i k. e i (omega arith)), e n (omega arith)) (set-get_or d n z)
+      ∙ rw (filled_same z n d (omega arith) (λ i k. e i (omega arith)), e n (omega arith)) (set-get_or d n z)
 
   -- the places from n on stay, and only they count
-  pub filled-drop : (n : ℕ) (d : List A) → drop n (filled f n d) ≡ drop n d
+  pub filled_drop : (n : ℕ) (d : List A) → drop n (filled f n d) ≡ drop n d
   unfolding filled
-  filled-drop n d = drop_at (table f n) (drop n d) n (table-length n)
+  filled_drop n d = drop_at (table f n) (drop n d) n (table_length n)
 
-  pub filled-over : (n : ℕ) (d e : List A) → drop n d ≡ drop n e → filled f n d ≡ filled f n e
+  pub filled_over : (n : ℕ) (d e : List A) → drop n d ≡ drop n e → filled f n d ≡ filled f n e
   unfolding filled
-  filled-over n d e h = ap (λ (l : List A). table f n ++ l) h
+  filled_over n d e h = ap (λ (l : List A). table f n ++ l) h
 
   -- filled twice is filled once
-  pub filled-again : (n : ℕ) (d : List A) → filled f n (filled f n d) ≡ filled f n d
-  filled-again n d = filled-over n (filled f n d) d (filled-drop n d)
+  pub filled_again : (n : ℕ) (d : List A) → filled f n (filled f n d) ≡ filled f n d
+  filled_again n d = filled_over n (filled f n d) d (filled_drop n d)
 
-  pub filled-cong : (g : ℕ → A) (n : ℕ) (d : List A) → ((i : ℕ) → i < n → f i ≡ g i) → filled f n d ≡ filled g n d
+  pub filled_cong : (g : ℕ → A) (n : ℕ) (d : List A) → ((i : ℕ) → i < n → f i ≡ g i) → filled f n d ≡ filled g n d
   unfolding filled
-  filled-cong g n d h = ap (λ (l : List A). l ++ drop n d) (table-cong g n h)
+  filled_cong g n d h = ap (λ (l : List A). l ++ drop n d) (table_cong g n h)
 
 -- a list all of whose places are filled from another has the front of that one
-table-take : (s : List ℕ) (n : ℕ) → n ≤ length s → table (at s) n ≡ take n s
+table_take : (s : List ℕ) (n : ℕ) → n ≤ length s → table (at s) n ≡ take n s
 unfolding table
-table-take s zero h = refl
-table-take s (suc n) h = rw (table-take s n (omega arith)) (sym (take-suc s n 0 h))
+table_take s zero h = refl
+table_take s (suc n) h = rw (table_take s n (omega arith)) (sym (take-suc s n 0 h))
 
-pub filled-take : (s d : List ℕ) (n : ℕ) → n ≤ length s → length d ≡ n → filled (at s) n d ≡ take n s
+pub filled_take : (s d : List ℕ) (n : ℕ) → n ≤ length s → length d ≡ n → filled (at s) n d ≡ take n s
 unfolding filled
-filled-take s d n h e = rw (table-take s n h, drop_of_length-le d {i = n} (omega arith)) (append-nil (take n s))
+filled_take s d n h e = rw (table_take s n h, drop_of_length-le d {i = n} (omega arith)) (append-nil (take n s))
 
 -- an array of zeros has 0 at every place, and past its end
-pub zero-at : (k i : ℕ) → at (replicate k 0) i ≡ 0
-zero-at k i =
+pub zero_at : (k i : ℕ) → at (replicate k 0) i ≡ 0
+zero_at k i =
     ⊎_elim
     (λ h. get_or-eq_default (replicate k 0) 0 (omega (arith, length-replicate {A = ℕ} k 0)))
     (λ h. get_or-replicate {A = ℕ} k i 0 0 h)
-    (le-or-lt k i)
+    (le_or_lt k i)
 
 module _ (f : ℕ → ℕ) where
   -- a row's array is one of zeros that was filled
-  pub filled-cells : (n : ℕ) → filled f n (replicate places 0) ≡ cells f n
+  pub filled_cells : (n : ℕ) → filled f n (replicate places 0) ≡ cells f n
   unfolding cells
-  filled-cells n = refl
+  filled_cells n = refl
 
   -- it is filled cell by cell
-  pub cells-none : replicate places 0 ≡ cells f 0
+  pub cells_none : replicate places 0 ≡ cells f 0
   unfolding cells
-  cells-none = filled_none f (replicate places 0)
+  cells_none = filled_none f (replicate places 0)
 
-  pub cells-more : (n : ℕ) → n < places → set (cells f n) n (f n) ≡ cells f (n + 1)
+  pub cells_more : (n : ℕ) → n < places → set (cells f n) n (f n) ≡ cells f (n + 1)
   unfolding cells
-  cells-more n h = filled_more f 0 n (replicate places 0) h
+  cells_more n h = filled_more f 0 n (replicate places 0) h
 
-  pub cells-length : (n : ℕ) → n ≤ places → length (cells f n) ≡ places
+  pub cells_length : (n : ℕ) → n ≤ places → length (cells f n) ≡ places
   unfolding cells
-  cells-length n h = filled-length f n (replicate places 0) h
+  cells_length n h = filled_length f n (replicate places 0) h
 
   pub cells_at : (n i : ℕ) → i < n → at (cells f n) i ≡ f i
   unfolding cells
   cells_at n i h = filled_at f n i (replicate places 0) 0 h
 
-  pub cells-cong : (g : ℕ → ℕ) (n : ℕ) → ((i : ℕ) → i < n → f i ≡ g i) → cells f n ≡ cells g n
+  pub cells_cong : (g : ℕ → ℕ) (n : ℕ) → ((i : ℕ) → i < n → f i ≡ g i) → cells f n ≡ cells g n
   unfolding cells
-  cells-cong g n h = filled-cong f g n (replicate places 0) h
+  cells_cong g n h = filled_cong f g n (replicate places 0) h
 
   -- a row that was put into an array is read as it was
-  pub cells-again : (n : ℕ) → cells f n ≡ cells (at (cells f n)) n
-  cells-again n = cells-cong (at (cells f n)) n (λ i h. sym (cells_at n i h))
+  pub cells_again : (n : ℕ) → cells f n ≡ cells (at (cells f n)) n
+  cells_again n = cells_cong (at (cells f n)) n (λ i h. sym (cells_at n i h))
 
   -- a row of zeros
-  pub cells-zero : (n : ℕ) → n ≤ places → ((i : ℕ) → i < n → f i ≡ 0) → replicate places 0 ≡ cells f n
+  pub cells_zero : (n : ℕ) → n ≤ places → ((i : ℕ) → i < n → f i ≡ 0) → replicate places 0 ≡ cells f n
   unfolding cells
-  cells-zero n h z =
-      sym (filled-same f 0 n (replicate places 0) h (λ i k. z i k ∙ sym (get_or-replicate {A = ℕ} places i 0 0 (omega arith))))
+  cells_zero n h z =
+      sym (filled_same f 0 n (replicate places 0) h (λ i k. z i k ∙ sym (get_or-replicate {A = ℕ} places i 0 0 (omega arith))))
 
 -- one cell of a whole array is set, and the row that it then holds differs there alone
-pub cells-set : (f g : ℕ → ℕ) (j : ℕ) → j < places → ((i : ℕ) → (i ≡ j → ⊥) → f i ≡ g i) → set (cells f places) j (g j) ≡ cells g places
-cells-set f g j h same =
-    let sized : length (cells f places) ≡ places = cells-length f places (omega arith) in
-    ext_get_or 0 (set (cells f places) j (g j)) (cells g places) (simp length-set (sized ∙ sym (cells-length g places (omega arith))))
+pub cells_set : (f g : ℕ → ℕ) (j : ℕ) → j < places → ((i : ℕ) → (i ≡ j → ⊥) → f i ≡ g i) → set (cells f places) j (g j) ≡ cells g places
+cells_set f g j h same =
+    let sized : length (cells f places) ≡ places = cells_length f places (omega arith) in
+    ext_get_or 0 (set (cells f places) j (g j)) (cells g places) (simp length-set (sized ∙ sym (cells_length g places (omega arith))))
     (λ i l.
     let k : i < places = omega (arith, length-set (cells f places) j (g j)) in
     ⊎_elim
     (λ (e : i ≡ j). rw e (get_or-set_same (cells f places) j (g j) 0 (omega arith) ∙ sym (cells_at g places j h)))
     (λ ne. get_or-set_other (cells f places) j i (g j) 0 ne ∙ cells_at f places i k ∙ same i ne ∙ sym (cells_at g places i k))
-    (eq-or-ne i j))
+    (eq_or_ne i j))
 
 -- the array a holds the row f below n
 pub record Holds (a : List ℕ) (f : ℕ → ℕ) (n : ℕ) : Type 0 where
@@ -269,13 +269,13 @@ pub record Holds (a : List ℕ) (f : ℕ → ℕ) (n : ℕ) : Type 0 where
 pub holds : {a : List ℕ} (f : ℕ → ℕ) (n : ℕ) → a ≡ cells f n → Holds a f n
 holds f n e = record { reads = λ i h. rw e (cells_at f n i h) }
 
-pub holds-own : (a : List ℕ) (n : ℕ) → Holds a (at a) n
-holds-own a n = record { reads = λ _ _. refl }
+pub holds_own : (a : List ℕ) (n : ℕ) → Holds a (at a) n
+holds_own a n = record { reads = λ _ _. refl }
 
 -- a row that is reckoned cell by cell from two arrays is reckoned from the rows that they hold
-pub cells-both : (op : ℕ → ℕ → ℕ) {a b : List ℕ} {f g : ℕ → ℕ} {n : ℕ} → Holds a f n → Holds b g n
+pub cells_both : (op : ℕ → ℕ → ℕ) {a b : List ℕ} {f g : ℕ → ℕ} {n : ℕ} → Holds a f n → Holds b g n
     → cells (λ i. op (at a i) (at b i)) n ≡ cells (λ i. op (f i) (g i)) n
-cells-both op {n = n} p q = cells-cong _ _ n (λ i h. ap₂ op (p.reads i h) (q.reads i h))
+cells_both op {n = n} p q = cells_cong _ _ n (λ i h. ap₂ op (p.reads i h) (q.reads i h))
 
-pub sum-holds : {a : List ℕ} {f : ℕ → ℕ} {n : ℕ} → Holds a f n → sum (at a) n ≡ sum f n
-sum-holds {n = n} p = sum-cong _ _ n p.reads
+pub sum_holds : {a : List ℕ} {f : ℕ → ℕ} {n : ℕ} → Holds a f n → sum (at a) n ≡ sum f n
+sum_holds {n = n} p = sum_cong _ _ n p.reads

@@ -1,6 +1,6 @@
 // The exact proportion amount × part / whole, whose product needs up to 87 bits, by long division in 64-bit words.
 ghost use Rattle.std.specs.Prelude.{◌≡◌, ℕ, ◌+◌, ◌*◌, ◌/◌, ◌%◌, ◌^◌, ◌≤◌, ◌<◌};
-ghost use Rattle.exact.specs.Division.{ceilDiv, Proportional};
+ghost use Rattle.exact.specs.Division.{ceil_div, Proportional};
 
 // A quotient rounded down, and what the division leaves.
 #[derive(Drop)]
@@ -38,7 +38,7 @@ pub fn proportion(amount: u64, part: u64, whole: u64) -> Quotient
 // amount × part / whole, rounded up.
 pub fn proportion_up(amount: u64, part: u64, whole: u64) -> u64
     requires { Proportional amount part whole }
-    ensures { result ≡ ceilDiv (amount * part) whole }
+    ensures { result ≡ ceil_div (amount * part) whole }
 {
     let p = proportion(amount, part, whole);
     let rest = p.remainder;

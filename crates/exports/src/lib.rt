@@ -7,11 +7,11 @@ mod slices;
 ghost use Rattle.std.specs.Prelude.{◌≡◌, cond, ◌*◌, ◌/◌, min, leb, length};
 ghost use Rattle.exact.specs.Division.{Proportional};
 ghost use Rattle.exact.specs.Rows.{places, cells};
-ghost use Rattle.settlement.specs.Month.{tierAt};
-ghost use Rattle.settlement.specs.Late.{latePayment};
-ghost use Rattle.exports.specs.Slices.{front, rowOf, tierPlaces, left};
-ghost use Rattle.exports.specs.Orders.{inOrder, settlementInOrder, lateMoneyInOrder};
-ghost use Rattle.exports.specs.Answers.{noticeOf, scaledOf, settled_of, refused, noQuotient};
+ghost use Rattle.settlement.specs.Month.{tier_at};
+ghost use Rattle.settlement.specs.Late.{late_payment};
+ghost use Rattle.exports.specs.Slices.{front, row_of, tier_places, left};
+ghost use Rattle.exports.specs.Orders.{in_order, settlement_in_order, late_money_in_order};
+ghost use Rattle.exports.specs.Answers.{notice_of, scaled_of, settled_of, refused, no_quotient};
 
 use exact::proportion;
 use months::{late_of, notice_of, scaled_of, settled_of};
@@ -28,7 +28,7 @@ const NO_QUOTIENT: u64 = 0xFFFF_FFFF_FFFF_FFFF;
 #[unsafe(no_mangle)]
 pub extern "C" fn clearing_proportion(amount: u64, part: u64, whole: u64) -> u64
     ensures value { Proportional amount part whole → result ≡ amount * part / whole }
-    ensures value_2 { (Proportional amount part whole → ⊥) → result ≡ noQuotient }
+    ensures value_2 { (Proportional amount part whole → ⊥) → result ≡ no_quotient }
 {
     if !proportional(amount, part, whole) {
         return NO_QUOTIENT;
@@ -47,9 +47,9 @@ pub extern "C" fn clearing_notice(
     retention: &mut [u64],
     payable: &mut [u64],
 ) -> bool
-    ensures value { result ≡ inOrder n by.now to.now groups.now reserves.now (min (length retention.old) (length payable.old)) }
-    ensures retention_after { retention.new ≡ left result (noticeOf n by.now to.now groups.now reserves.now).retention retention.old }
-    ensures payable_after { payable.new ≡ left result (noticeOf n by.now to.now groups.now reserves.now).payable payable.old }
+    ensures value { result ≡ in_order n by.now to.now groups.now reserves.now (min (length retention.old) (length payable.old)) }
+    ensures retention_after { retention.new ≡ left result (notice_of n by.now to.now groups.now reserves.now).retention retention.old }
+    ensures payable_after { payable.new ≡ left result (notice_of n by.now to.now groups.now reserves.now).payable payable.old }
 {
     let room = shorter(retention.len(), payable.len());
     if !in_order(by, to, groups, reserves, n, room) {
@@ -77,10 +77,10 @@ pub extern "C" fn clearing_scaled(
     above: &mut [u64],
     below: &mut [u64],
 ) -> bool
-    ensures value { result ≡ settlementInOrder n by.now to.now groups.now reserves.now received.now revised.old above.old below.old }
-    ensures revised_after { revised.new ≡ left result (scaledOf n by.now to.now groups.now reserves.now received.now).revised revised.old }
-    ensures above_after { above.new ≡ left result (scaledOf n by.now to.now groups.now reserves.now received.now).above above.old }
-    ensures below_after { below.new ≡ left result (scaledOf n by.now to.now groups.now reserves.now received.now).below below.old }
+    ensures value { result ≡ settlement_in_order n by.now to.now groups.now reserves.now received.now revised.old above.old below.old }
+    ensures revised_after { revised.new ≡ left result (scaled_of n by.now to.now groups.now reserves.now received.now).revised revised.old }
+    ensures above_after { above.new ≡ left result (scaled_of n by.now to.now groups.now reserves.now received.now).above above.old }
+    ensures below_after { below.new ≡ left result (scaled_of n by.now to.now groups.now reserves.now received.now).below below.old }
 {
     let room = shorter(revised.len(), shorter(above.len(), below.len()));
     let checked = check_receipts(by, to, groups, reserves, received, n, room);
@@ -112,7 +112,7 @@ pub extern "C" fn clearing_settle(
     claims: &mut [u64],
     arrears: &mut [u64],
 ) -> u64
-    ensures value { result ≡ cond (settlementInOrder n by.now to.now groups.now reserves.now received.now paid.old claims.old arrears.old) (settled_of n by.now to.now groups.now reserves.now received.now).rounds refused }
+    ensures value { result ≡ cond (settlement_in_order n by.now to.now groups.now reserves.now received.now paid.old claims.old arrears.old) (settled_of n by.now to.now groups.now reserves.now received.now).rounds refused }
     ensures paid_after { paid.new ≡ left (leb result places) (settled_of n by.now to.now groups.now reserves.now received.now).paid paid.old }
     ensures claims_after { claims.new ≡ left (leb result places) (settled_of n by.now to.now groups.now reserves.now received.now).claims claims.old }
     ensures arrears_after { arrears.new ≡ left (leb result places) (settled_of n by.now to.now groups.now reserves.now received.now).arrears arrears.old }
@@ -144,8 +144,8 @@ pub extern "C" fn clearing_late(
     n: usize,
     pays: &mut [u64],
 ) -> bool
-    ensures value { result ≡ lateMoneyInOrder n to.now claims.now paid.now money (length pays.old) }
-    ensures pays_after { pays.new ≡ left result (cells (latePayment (tierAt (front tierPlaces to.now)) (rowOf claims.now) (rowOf paid.now) n money) n) pays.old }
+    ensures value { result ≡ late_money_in_order n to.now claims.now paid.now money (length pays.old) }
+    ensures pays_after { pays.new ≡ left result (cells (late_payment (tier_at (front tier_places to.now)) (row_of claims.now) (row_of paid.now) n money) n) pays.old }
 {
     if !late_money_in_order(to, claims, paid, money, n, pays.len()) {
         return false;

@@ -2,8 +2,8 @@
 ghost use Rattle.std.specs.Prelude.{◌≡◌, true, false, ◌≤◌};
 ghost use Rattle.exact.specs.Division.{Proportional};
 ghost use Rattle.exact.specs.Rows.{places, at};
-ghost use Rattle.exports.specs.Orders.{eachAtMost, owingInOrder, groupsInOrder, inOrder, receivedInOrder, lateMoneyInOrder};
-ghost use Rattle.exports.specs.Answers.{noticeOf};
+ghost use Rattle.exports.specs.Orders.{each_at_most, owing_in_order, groups_in_order, in_order, received_in_order, late_money_in_order};
+ghost use Rattle.exports.specs.Answers.{notice_of};
 
 use crate::months::notice_of;
 use crate::slices::{grouping_of, row_of, shorter, side_total, tier_cells_of};
@@ -12,7 +12,7 @@ use settlement::{GROUPS, SIDE_LIMIT, TIERS, is_grouping_allowed, over_tiers};
 
 // Whether n participants and the cents owing to them by tiers are in order, and the shortest slice of a row has room.
 pub fn owing_in_order(to: &[u64], n: usize, room: usize) -> bool
-    ensures { result ≡ owingInOrder n to.now room }
+    ensures { result ≡ owing_in_order n to.now room }
 {
     if room < PLACES {
         return false;
@@ -32,7 +32,7 @@ pub fn owing_in_order(to: &[u64], n: usize, room: usize) -> bool
 // Whether the group numbers of n participants and the reserves of all groups are in order.
 pub fn groups_in_order(groups: &[u64], reserves: &[u64], n: usize) -> bool
     requires { n ≤ places }
-    ensures { result ≡ groupsInOrder n groups.now reserves.now }
+    ensures { result ≡ groups_in_order n groups.now reserves.now }
 {
     if groups.len() < PLACES {
         return false;
@@ -54,7 +54,7 @@ pub fn in_order(
     n: usize,
     room: usize,
 ) -> bool
-    ensures { result ≡ inOrder n by.now to.now groups.now reserves.now room }
+    ensures { result ≡ in_order n by.now to.now groups.now reserves.now room }
 {
     if !owing_in_order(to, n, room) {
         return false;
@@ -71,7 +71,7 @@ pub fn in_order(
 // Whether each of the first n cells is at most the other row's.
 pub fn each_at_most(a: Row, b: Row, n: usize) -> bool
     requires { n ≤ places }
-    ensures { result ≡ eachAtMost (at a) (at b) n }
+    ensures { result ≡ each_at_most (at a) (at b) n }
 {
     for i in 0..n {
         if b[i] < a[i] {
@@ -99,8 +99,8 @@ pub fn check_receipts(
     n: usize,
     room: usize,
 ) -> Checked
-    ensures passed_value { result.passed ≡ receivedInOrder n by.now to.now groups.now reserves.now received.now room }
-    ensures payable_value { result.passed ≡ true → result.payable ≡ (noticeOf n by.now to.now groups.now reserves.now).payable }
+    ensures passed_value { result.passed ≡ received_in_order n by.now to.now groups.now reserves.now received.now room }
+    ensures payable_value { result.passed ≡ true → result.payable ≡ (notice_of n by.now to.now groups.now reserves.now).payable }
 {
     if !in_order(by, to, groups, reserves, n, shorter(received.len(), room)) {
         let none = [0u64; PLACES];
@@ -125,7 +125,7 @@ pub fn late_money_in_order(
     n: usize,
     room: usize,
 ) -> bool
-    ensures { result ≡ lateMoneyInOrder n to.now claims.now paid.now money room }
+    ensures { result ≡ late_money_in_order n to.now claims.now paid.now money room }
 {
     if !owing_in_order(to, n, shorter(claims.len(), shorter(paid.len(), room))) {
         return false;

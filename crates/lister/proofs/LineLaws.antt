@@ -3,18 +3,18 @@ use Rattle.std.proofs.Common.{◌≡◌, ℕ, zero, suc, ◌+◌, ◌-◌, ◌*�
 use lib.ListN.{get_or-append}
 use lib.Seq.{sets, sets-eq}
 use Rattle.exact.specs.Rows.{places}
-use Rattle.exact.proofs.Cases.{le-or-lt}
-use Rattle.lister.specs.Lines.{entryLine, payLine, payLines}
-use Rattle.lister.specs.inner.Runs.{linesTo, lastPaid, runLines}
+use Rattle.exact.proofs.Cases.{le_or_lt}
+use Rattle.lister.specs.Lines.{entry_line, pay_line, pay_lines}
+use Rattle.lister.specs.inner.Runs.{lines_to, last_paid, run_lines}
 
 module _ (a p h : ℕ) (lines : List ℕ) where
   -- a word behind the first line
   behind : (j k : ℕ) → k ≡ suc (suc (suc j)) → get_or (a ∷ p ∷ h ∷ lines) k 0 ≡ get_or lines j 0
   behind j k e = rw e
 
-  lines_more : (first count : ℕ) → linesTo first (a ∷ p ∷ h ∷ lines) (suc count) ≡ entryLine first a p h ++ linesTo (first + 1) lines count
-  unfolding linesTo
-  lines_more first zero = rw (add-zero first) (sym (append-nil (entryLine first a p h)))
+  lines_more : (first count : ℕ) → lines_to first (a ∷ p ∷ h ∷ lines) (suc count) ≡ entry_line first a p h ++ lines_to (first + 1) lines count
+  unfolding lines_to
+  lines_more first zero = rw (add-zero first) (sym (append-nil (entry_line first a p h)))
   lines_more first (suc c) =
       let n : first + suc c ≡ first + 1 + c = omega arith in
       rw (
@@ -24,69 +24,69 @@ module _ (a p h : ℕ) (lines : List ℕ) where
         behind (c * 3 + 1) (suc c * 3 + 1) (omega arith),
         behind (c * 3 + 2) (suc c * 3 + 2) (omega arith),
       )
-      (append_assoc (entryLine first a p h) (linesTo (first + 1) lines c) _)
+      (append_assoc (entry_line first a p h) (lines_to (first + 1) lines c) _)
 
-  last_more : (count : ℕ) → p ≡ 0 → lastPaid (a ∷ p ∷ h ∷ lines) (suc count) ≡ lastPaid lines count
-  unfolding lastPaid
+  last_more : (count : ℕ) → p ≡ 0 → last_paid (a ∷ p ∷ h ∷ lines) (suc count) ≡ last_paid lines count
+  unfolding last_paid
   last_more zero z = z
   last_more (suc c) z = rw (ne_eqb (suc (suc c)) 0 (λ e. absurd (omega arith)), ne_eqb (suc c) 0 (λ e. absurd (omega arith))) (behind ((suc c - 1) * 3 + 1) ((suc (suc c) - 1) * 3 + 1) (omega arith))
 
   -- a line that paid nothing, and the run after it
-  pub run-unpaid : (first count : ℕ) (words : List ℕ) → p ≡ 0
-      → runLines first (a ∷ p ∷ h ∷ lines) (suc count) words ≡ entryLine first a p h ++ runLines (first + 1) lines count words
-  unfolding runLines
-  run-unpaid first count words z =
-      rw (lines_more first count, last_more count z) (append_assoc (entryLine first a p h) (linesTo (first + 1) lines count) _)
+  pub run_unpaid : (first count : ℕ) (words : List ℕ) → p ≡ 0
+      → run_lines first (a ∷ p ∷ h ∷ lines) (suc count) words ≡ entry_line first a p h ++ run_lines (first + 1) lines count words
+  unfolding run_lines
+  run_unpaid first count words z =
+      rw (lines_more first count, last_more count z) (append_assoc (entry_line first a p h) (lines_to (first + 1) lines count) _)
 
 -- a line that paid, the last of its run
-pub run-paid : (first a p h : ℕ) (words : List ℕ) → (p ≡ 0 → ⊥)
-    → runLines first (a ∷ p ∷ h ∷ []) 1 words ≡ entryLine first a p h ++ payLines words places
-unfolding runLines linesTo lastPaid
-run-paid first a p h words pays = rw (add-zero first, ne_eqb p 0 pays)
+pub run_paid : (first a p h : ℕ) (words : List ℕ) → (p ≡ 0 → ⊥)
+    → run_lines first (a ∷ p ∷ h ∷ []) 1 words ≡ entry_line first a p h ++ pay_lines words places
+unfolding run_lines lines_to last_paid
+run_paid first a p h words pays = rw (add-zero first, ne_eqb p 0 pays)
 
-pub run_none : (first : ℕ) (lines words : List ℕ) → runLines first lines 0 words ≡ []
-unfolding runLines linesTo lastPaid
+pub run_none : (first : ℕ) (lines words : List ℕ) → run_lines first lines 0 words ≡ []
+unfolding run_lines lines_to last_paid
 run_none first lines words = refl
 
 -- lines that agree in the words of a run
 module _ (l m : List ℕ) where
-  lines-cong : (first count : ℕ) → ((k : ℕ) → k < count * 3 → get_or l k 0 ≡ get_or m k 0) → linesTo first l count ≡ linesTo first m count
-  unfolding linesTo
-  lines-cong first zero e = refl
-  lines-cong first (suc c) e =
-      rw (lines-cong first c (λ k h. e k (omega arith)), e (c * 3) (omega arith), e (c * 3 + 1) (omega arith), e (c * 3 + 2) (omega arith))
+  lines_cong : (first count : ℕ) → ((k : ℕ) → k < count * 3 → get_or l k 0 ≡ get_or m k 0) → lines_to first l count ≡ lines_to first m count
+  unfolding lines_to
+  lines_cong first zero e = refl
+  lines_cong first (suc c) e =
+      rw (lines_cong first c (λ k h. e k (omega arith)), e (c * 3) (omega arith), e (c * 3 + 1) (omega arith), e (c * 3 + 2) (omega arith))
 
-  last-cong : (count : ℕ) → ((k : ℕ) → k < count * 3 → get_or l k 0 ≡ get_or m k 0) → lastPaid l count ≡ lastPaid m count
-  unfolding lastPaid
-  last-cong zero e = refl
-  last-cong (suc c) e = rw (e ((suc c - 1) * 3 + 1) (omega arith))
+  last_cong : (count : ℕ) → ((k : ℕ) → k < count * 3 → get_or l k 0 ≡ get_or m k 0) → last_paid l count ≡ last_paid m count
+  unfolding last_paid
+  last_cong zero e = refl
+  last_cong (suc c) e = rw (e ((suc c - 1) * 3 + 1) (omega arith))
 
-  run-cong : (first count : ℕ) (words : List ℕ) → ((k : ℕ) → k < count * 3 → get_or l k 0 ≡ get_or m k 0) → runLines first l count words ≡ runLines first m count words
-  unfolding runLines
-  run-cong first count words e = rw (lines-cong first count e, last-cong count e)
+  run_cong : (first count : ℕ) (words : List ℕ) → ((k : ℕ) → k < count * 3 → get_or l k 0 ≡ get_or m k 0) → run_lines first l count words ≡ run_lines first m count words
+  unfolding run_lines
+  run_cong first count words e = rw (lines_cong first count e, last_cong count e)
 
 -- the lines of a run, put at the front of lent words
-pub run-stored : (first count : ℕ) (old lines words : List ℕ) → length lines ≡ count * 3 → length lines ≤ length old
-    → runLines first (sets old 0 lines) count words ≡ runLines first lines count words
-run-stored first count old lines words n h = run-cong (sets old 0 lines) lines first count words (λ k l.
+pub run_stored : (first count : ℕ) (old lines words : List ℕ) → length lines ≡ count * 3 → length lines ≤ length old
+    → run_lines first (sets old 0 lines) count words ≡ run_lines first lines count words
+run_stored first count old lines words n h = run_cong (sets old 0 lines) lines first count words (λ k l.
     ap (λ (s : List ℕ). get_or s k 0) (sets-eq lines old 0 (omega arith))
     ∙ get_or-append lines (drop (0 + length lines) old) 0 k (omega arith))
 
 -- only an entry's number modulo 2 ^ 64 counts
-pub line-mod : (m k answer paid held : ℕ) → m % 2 ^ 64 ≡ k % 2 ^ 64 → entryLine m answer paid held ≡ entryLine k answer paid held
-unfolding entryLine
-line-mod m k answer paid held h = rw h
+pub line_mod : (m k answer paid held : ℕ) → m % 2 ^ 64 ≡ k % 2 ^ 64 → entry_line m answer paid held ≡ entry_line k answer paid held
+unfolding entry_line
+line_mod m k answer paid held h = rw h
 
 -- payouts of nothing, and participants from n on that are paid nothing
-pub pays-none : (words : List ℕ) (n : ℕ) → ((i : ℕ) → i < n → get_or words i 0 ≡ 0) → payLines words n ≡ []
-unfolding payLines payLine
-pays-none words zero e = refl
-pays-none words (suc n) e = rw (pays-none words n (λ i h. e i (omega arith)), eq-eqb (get_or words n 0) 0 (e n (omega arith)))
+pub pays_none : (words : List ℕ) (n : ℕ) → ((i : ℕ) → i < n → get_or words i 0 ≡ 0) → pay_lines words n ≡ []
+unfolding pay_lines pay_line
+pays_none words zero e = refl
+pays_none words (suc n) e = rw (pays_none words n (λ i h. e i (omega arith)), eq-eqb (get_or words n 0) 0 (e n (omega arith)))
 
-pub pays-tail : (words : List ℕ) (n m : ℕ) → n ≤ m → ((i : ℕ) → n ≤ i → get_or words i 0 ≡ 0) → payLines words m ≡ payLines words n
-unfolding payLines payLine
-pays-tail words n zero h e = let z : zero ≡ n = omega arith in ap (payLines words) z
-pays-tail words n (suc m) h e = ⊎_elim
-    (λ (l : n ≤ m). rw (eq-eqb (get_or words m 0) 0 (e m l)) (append-nil (payLines words m) ∙ pays-tail words n m l e))
-    (λ (l : m < n). let z : suc m ≡ n = omega arith in ap (payLines words) z)
-    (le-or-lt n m)
+pub pays_tail : (words : List ℕ) (n m : ℕ) → n ≤ m → ((i : ℕ) → n ≤ i → get_or words i 0 ≡ 0) → pay_lines words m ≡ pay_lines words n
+unfolding pay_lines pay_line
+pays_tail words n zero h e = let z : zero ≡ n = omega arith in ap (pay_lines words) z
+pays_tail words n (suc m) h e = ⊎_elim
+    (λ (l : n ≤ m). rw (eq-eqb (get_or words m 0) 0 (e m l)) (append-nil (pay_lines words m) ∙ pays_tail words n m l e))
+    (λ (l : m < n). let z : suc m ≡ n = omega arith in ap (pay_lines words) z)
+    (le_or_lt n m)

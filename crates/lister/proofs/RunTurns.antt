@@ -8,17 +8,17 @@ use Rattle.book.specs.rules.Valid.{Valid}
 use Rattle.book.specs.rules.Words.{AgreeFrom}
 use Rattle.book.specs.runs.Running.{Run, run}
 use Rattle.book.specs.declared.Book.{Book}
-use Rattle.book.proofs.Laws.{reading-front, Ends}
+use Rattle.book.proofs.Laws.{reading_front, Ends}
 use Rattle.lister.specs.Listing.{lent}
 use Rattle.lister.specs.Pieces.{Lists}
-use Rattle.lister.specs.inner.Runs.{runLines}
+use Rattle.lister.specs.inner.Runs.{run_lines}
 use Rattle.lister.specs.Turns.{waiting}
-use Rattle.lister.specs.inner.Blocks.{outRoom, RunsListed}
+use Rattle.lister.specs.inner.Blocks.{out_room, RunsListed}
 use Rattle.lister.specs.declared.blocks.Standing.{Standing}
 use Rattle.lister.specs.declared.blocks.Next.TheVariants.{Again}
-use Rattle.lister.proofs.LineLaws.{run_none, run-stored}
-use Rattle.lister.proofs.PieceLaws.{lists-none, lists-then, lists-mod}
-use Rattle.lister.proofs.RunLists.{RunLists, run-lists}
+use Rattle.lister.proofs.LineLaws.{run_none, run_stored}
+use Rattle.lister.proofs.PieceLaws.{lists_none, lists_then, lists_mod}
+use Rattle.lister.proofs.RunLists.{RunLists, run_lists}
 
 -- where the listing of a block stands after some of its runs
 module _ (feed : List ℕ) (number₀ : ℕ) (b₀ : Book) (place₀ : ℕ) (out₀ : List ℕ) where
@@ -31,7 +31,7 @@ module _ (feed : List ℕ) (number₀ : ℕ) (b₀ : Book) (place₀ : ℕ) (out
         (record { number = number; book = b; left = drop place feed })
     pub valid : Valid b
     pub agree : AgreeFrom b.n words lent
-    pub room : wrote ≤ outRoom
+    pub room : wrote ≤ out_room
     pub within : place ≤ length feed
     pub onward : place₀ ≤ place
     pub some : 0 < wrote → place₀ < place
@@ -40,7 +40,7 @@ module _ (feed : List ℕ) (number₀ : ℕ) (b₀ : Book) (place₀ : ℕ) (out
   begins words v h a = record {
     put = [];
     puts = puts_none out₀ 0;
-    lists = lists-none (record { number = number₀; book = b₀; left = drop place₀ feed });
+    lists = lists_none (record { number = number₀; book = b₀; left = drop place₀ feed });
     valid = v;
     agree = a;
     room = omega arith;
@@ -54,7 +54,7 @@ module _ (feed : List ℕ) (number₀ : ℕ) (b₀ : Book) (place₀ : ℕ) (out
     x = run feed (length lines) b place words
 
     ran : RunLists feed (length lines) number b place (run feed (length lines) b place words)
-    ran = run-lists feed (length lines) number b place words g.valid g.agree
+    ran = run_lists feed (length lines) number b place words g.valid g.agree
 
     counts : length x.lines / 3 ≡ ran.count
     counts = omega (arith, ran.three)
@@ -69,8 +69,8 @@ module _ (feed : List ℕ) (number₀ : ℕ) (b₀ : Book) (place₀ : ℕ) (out
           (subst (λ (y : List ℕ). P x.book x.place (length x.lines) y lines') (sym e.3)
           (subst (λ (y : List ℕ). P x.book x.place (length x.lines) x.words y) (sym e.4) z))))
 
-      pub few-lines : k / 3 ≤ 512
-      few-lines = omega (arith, e.2, ran.few, size)
+      pub few_lines : k / 3 ≤ 512
+      few_lines = omega (arith, e.2, ran.few, size)
 
       listed : (k / 3 ≡ 0 → ⊥) → 0 < ran.count
       listed h = let nonzero : ran.count ≡ 0 → ⊥ = λ z. h (ap (λ (y : ℕ). y / 3) e.2 ∙ counts ∙ z) in omega (arith, nonzero)
@@ -82,23 +82,23 @@ module _ (feed : List ℕ) (number₀ : ℕ) (b₀ : Book) (place₀ : ℕ) (out
       -- nothing was read
       pub ends : k / 3 ≡ 0 → (reading (drop place' feed) 0).entry ≡ []
       ends z =
-          sym (ap (λ (r : ReadOutcome). r.entry) (reading-front feed place'))
+          sym (ap (λ (r : ReadOutcome). r.entry) (reading_front feed place'))
           ∙ subst (λ (y : ℕ). (reading feed y).entry ≡ []) (sym e.1) (ran.none (sym counts ∙ ap (λ (y : ℕ). y / 3) (sym e.2) ∙ z) (omega (arith, size)))
 
       -- the run, and what was put of it
-      pub goes : {out' : List ℕ} {wrote' : ℕ} → (k / 3 ≡ 0 → ⊥) → Puts out wrote (runLines number lines' (k / 3) words') out' wrote' → wrote' ≤ outRoom
+      pub goes : {out' : List ℕ} {wrote' : ℕ} → (k / 3 ≡ 0 → ⊥) → Puts out wrote (run_lines number lines' (k / 3) words') out' wrote' → wrote' ≤ out_room
           → Going out' words' b' ((number + k / 3) % 2 ^ 64) place' wrote'
       goes {out'} {wrote'} h = moved
-          (λ (b : Book) (place k : ℕ) (words lines : List ℕ). Puts out wrote (runLines number lines (k / 3) words) out' wrote' → wrote' ≤ outRoom → Going out' words b ((number + k / 3) % 2 ^ 64) place wrote')
-          (subst (λ (j : ℕ). Puts out wrote (runLines number (sets lines 0 x.lines) j x.words) out' wrote' → wrote' ≤ outRoom → Going out' x.words x.book ((number + j) % 2 ^ 64) x.place wrote')
+          (λ (b : Book) (place k : ℕ) (words lines : List ℕ). Puts out wrote (run_lines number lines (k / 3) words) out' wrote' → wrote' ≤ out_room → Going out' words b ((number + k / 3) % 2 ^ 64) place wrote')
+          (subst (λ (j : ℕ). Puts out wrote (run_lines number (sets lines 0 x.lines) j x.words) out' wrote' → wrote' ≤ out_room → Going out' x.words x.book ((number + j) % 2 ^ 64) x.place wrote')
           (sym counts) (turn (listed h)))
         where
-          turn : {out' : List ℕ} {wrote' : ℕ} → 0 < ran.count → Puts out wrote (runLines number (sets lines 0 x.lines) ran.count x.words) out' wrote' → wrote' ≤ outRoom
+          turn : {out' : List ℕ} {wrote' : ℕ} → 0 < ran.count → Puts out wrote (run_lines number (sets lines 0 x.lines) ran.count x.words) out' wrote' → wrote' ≤ out_room
               → Going out' x.words x.book ((number + ran.count) % 2 ^ 64) x.place wrote'
           turn some p h = record {
-            put = g.put ++ runLines number x.lines ran.count x.words;
-            puts = puts_then g.puts (rw (run-stored number ran.count lines x.lines x.words ran.three ran.few) at p);
-            lists = lists-mod (lists-then g.lists ran.lists) (omega arith);
+            put = g.put ++ run_lines number x.lines ran.count x.words;
+            puts = puts_then g.puts (rw (run_stored number ran.count lines x.lines x.words ran.three ran.few) at p);
+            lists = lists_mod (lists_then g.lists ran.lists) (omega arith);
             valid = ran.valid;
             agree = ran.agree;
             room = h;

@@ -2,7 +2,7 @@
 use Rattle.std.specs.Prelude.{◌≡◌, ℕ, List, ◌++◌}
 use Rattle.book.specs.declared.limits.Limits.{Limits}
 use Rattle.book.specs.declared.Book.{Book}
-use Rattle.lister.specs.Listing.{listingFrom, listing}
+use Rattle.lister.specs.Listing.{listing_from, listing}
 
 -- where a listing stands: the number of the next entry, the book, and the bytes left of those handed over
 pub record Stand : Type 0 where
@@ -16,7 +16,7 @@ fed a piece = record { number = a.number; book = a.book; left = a.left ++ piece 
 
 -- the listing from there on, if nothing follows
 abbrev pub rest : Stand → List ℕ
-rest a = listingFrom a.number a.book a.left
+rest a = listing_from a.number a.book a.left
 
 -- from one stand to another these bytes are listed, whatever follows
 pub record Lists (a : Stand) (put : List ℕ) (z : Stand) : Type 0 where

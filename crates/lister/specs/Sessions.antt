@@ -36,9 +36,9 @@ Told NotWritten i o turns = o.all ≡ false
 pub record Session (limits : Limits) (r : Ending) : Type 0 where
   pub seen : List ℕ
   pub put : List ℕ
-  pub seen-counted : r.input.total ≡ min (length seen) most
-  pub put-counted : r.output.total ≡ min (length put) most
+  pub seen_counted : r.input.total ≡ min (length seen) most
+  pub put_counted : r.output.total ≡ min (length put) most
   pub listed : Listed limits r.why seen put
   pub told : Told r.why r.input r.output r.turns
   -- so the turns are used up only where 2 ^ 63 - 1 bytes were read
-  pub few-turns : r.turns ≤ 2 * length seen + 2
+  pub few_turns : r.turns ≤ 2 * length seen + 2

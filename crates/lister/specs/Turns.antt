@@ -1,10 +1,10 @@
 -- An input that is handed over in pieces is listed as it is whole.
 use Rattle.std.specs.Prelude.{◌≡◌, ℕ, ◌<◌, ◌≤◌, Bool, true, false, List, [], ◌∷◌, ◌++◌, length, ◌≢◌}
 use Rattle.book.specs.layouts.Reading.{reading}
-use Rattle.book.specs.rules.State.{centsHeld}
+use Rattle.book.specs.rules.State.{cents_held}
 use Rattle.book.specs.declared.limits.Limits.{Limits}
 use Rattle.lister.specs.Lines.{header}
-use Rattle.lister.specs.Listing.{endLine, bookFor, listing}
+use Rattle.lister.specs.Listing.{end_line, book_for, listing}
 use Rattle.lister.specs.Pieces.{Stand, fed, Lists}
 use Rattle.lister.specs.declared.blocks.Next.{Next}
 use Rattle.lister.specs.declared.blocks.Next.TheVariants.{Again, Read, Done}
@@ -19,8 +19,8 @@ pub record Ends (ended : Bool) (a : Stand) (put : List ℕ) (z : Stand) : Type 0
   pub before : List ℕ
   pub lists : Lists a before z
   pub none : (reading z.left 0).entry ≡ []
-  pub whole : put ≡ before ++ endLine z.number (centsHeld z.book) z.left
-  pub for-good : ended ≡ false → (reading z.left 0).answer ≢ 1
+  pub whole : put ≡ before ++ end_line z.number (cents_held z.book) z.left
+  pub for_good : ended ≡ false → (reading z.left 0).answer ≢ 1
 
 -- what is listed of a block, by what is to be done next: list on, since output waits; read, since the bytes left are short and
 -- the input has not ended; or nothing
@@ -58,19 +58,19 @@ abbrev pub pieces : List Turn → List ℕ
 pieces [] = []
 pieces (t ∷ ts) = t.piece ++ pieces ts
 
-abbrev pub allPut : List Turn → List ℕ
-allPut [] = []
-allPut (t ∷ ts) = t.put ++ allPut ts
+abbrev pub all_put : List Turn → List ℕ
+all_put [] = []
+all_put (t ∷ ts) = t.put ++ all_put ts
 
 -- where a listing begins that was handed n
 abbrev pub begun : Limits → ℕ → Stand
-begun limits n = record { number = 1; book = bookFor limits n; left = [] }
+begun limits n = record { number = 1; book = book_for limits n; left = [] }
 
 -- any limits and any input, n and what follows it, cut into pieces in any way: what the turns put, in order, is its listing; and
 -- where the input had not ended, that of every input that begins so
 pub record Joined (limits : Limits) (n : ℕ) (t : Turn) (ts : List Turn) : Type 0 where
-  pub whole : listing limits (n ∷ pieces (t ∷ ts)) ≡ header ++ allPut (t ∷ ts)
-  pub for-good : (last t ts).ended ≡ false → (more : List ℕ) → listing limits ((n ∷ pieces (t ∷ ts)) ++ more) ≡ header ++ allPut (t ∷ ts)
+  pub whole : listing limits (n ∷ pieces (t ∷ ts)) ≡ header ++ all_put (t ∷ ts)
+  pub for_good : (last t ts).ended ≡ false → (more : List ℕ) → listing limits ((n ∷ pieces (t ∷ ts)) ++ more) ≡ header ++ all_put (t ∷ ts)
 
 -- an input of no byte has the header alone
 pub record JoinedPieces : Type 0 where

@@ -2,9 +2,9 @@
 ghost use Rattle.std.specs.Prelude.{◌≡◌, ◌≤◌, false, if◌then◌else◌, ◌==◌};
 ghost use Rattle.text.specs.Puts.{Puts};
 ghost use Rattle.book.specs.layouts.Reading.{reading};
-ghost use Rattle.lister.specs.Listing.{endLine};
+ghost use Rattle.lister.specs.Listing.{end_line};
 ghost use Rattle.lister.specs.Turns.{waiting};
-ghost use Rattle.lister.specs.inner.Blocks.{outRoom, Ready, BlockListed};
+ghost use Rattle.lister.specs.inner.Blocks.{out_room, Ready, BlockListed};
 ghost use Rattle.lister.specs.declared.blocks.Next.TheVariants.{Again};
 
 use crate::lines::{Words, put_line};
@@ -68,8 +68,8 @@ fn answer_at_front(left: &[u8]) -> u64
 // The end of a listing before the bytes left: the line of an entry that cannot be read, where there are any.
 fn put_end(out: &mut Out, place: usize, number: u64, held: u64, left: &[u8]) -> usize
     requires { place ≤ waiting }
-    ensures puts { Puts out.old place (endLine number held left.now) out.new result }
-    ensures upper_bound { result ≤ outRoom }
+    ensures puts { Puts out.old place (end_line number held left.now) out.new result }
+    ensures upper_bound { result ≤ out_room }
 {
     if left.len() == 0 {
         return place;

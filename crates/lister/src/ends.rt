@@ -2,7 +2,7 @@
 ghost use Rattle.std.specs.Prelude.{◌≡◌, ◌≤◌, length};
 ghost use Rattle.text.specs.Puts.{Puts};
 ghost use Rattle.lister.specs.Messages.{message};
-ghost use Rattle.lister.specs.inner.Blocks.{whyEnded};
+ghost use Rattle.lister.specs.inner.Blocks.{why_ended};
 
 use text::{Errors, Input, Output, has_ended, has_failed, put_bytes, write_error};
 
@@ -40,7 +40,7 @@ pub fn ended_by(why: End, turns: u64, input: Input, output: Output) -> Ending
 
 // Why a listing ended, by what the last read left.
 pub fn why_ended(i: Input) -> End
-    ensures { result ≡ whyEnded i.last }
+    ensures { result ≡ why_ended i.last }
 {
     if has_failed(i) {
         return End::NotRead;

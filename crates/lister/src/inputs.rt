@@ -1,7 +1,7 @@
 // The input, block after block. No contract can say what the C library delivers or writes, so that the bytes which were
 // read are those listed, and those listed the ones written, is to be read here.
 ghost use Rattle.std.specs.Prelude.{◌≡◌};
-ghost use Rattle.lister.specs.Listing.{bookFor, lent};
+ghost use Rattle.lister.specs.Listing.{book_for, lent};
 ghost use Rattle.lister.specs.Sessions.{Session};
 ghost use Rattle.lister.specs.inner.Blocks.{Begun};
 
@@ -31,7 +31,7 @@ fn size(n: u8) -> usize
 
 // The book of a listing: each participant is in a group of its own, and no group has a reserve.
 fn first_book(limits: Limits, n: u8) -> Book
-    ensures { result ≡ bookFor limits n }
+    ensures { result ≡ book_for limits n }
 {
     let m = book::separate(size(n), limits);
     let made = book::new(m);

@@ -2,8 +2,8 @@
 ghost use Rattle.std.specs.Prelude.{◌+◌, ◌*◌, ◌≤◌, length};
 ghost use Rattle.exact.specs.Rows.{places};
 ghost use Rattle.text.specs.Puts.{Puts};
-ghost use Rattle.lister.specs.Lines.{header, entryLine, payLine, payLines};
-ghost use Rattle.lister.specs.inner.Runs.{lineRoom, payRoom};
+ghost use Rattle.lister.specs.Lines.{header, entry_line, pay_line, pay_lines};
+ghost use Rattle.lister.specs.inner.Runs.{line_room, pay_room};
 
 use exact::PLACES;
 use text::{put_bytes, put_number};
@@ -34,9 +34,9 @@ pub fn put_line(
     paid: u64,
     held: u64,
 ) -> usize
-    requires { place + lineRoom ≤ length out.old }
-    ensures puts { Puts out.old place (entryLine number answer paid held) out.new result }
-    ensures upper_bound { result ≤ place + lineRoom }
+    requires { place + line_room ≤ length out.old }
+    ensures puts { Puts out.old place (entry_line number answer paid held) out.new result }
+    ensures upper_bound { result ≤ place + line_room }
 {
     let a = put_number(out, place, number, SPACE);
     let b = put_number(out, a, answer, SPACE);
@@ -46,9 +46,9 @@ pub fn put_line(
 
 // The line of a payout, where there is one.
 fn put_pay(out: &mut [u8], place: usize, participant: u64, cents: u64) -> usize
-    requires { place + payRoom ≤ length out.old }
-    ensures puts { Puts out.old place (payLine participant cents) out.new result }
-    ensures upper_bound { result ≤ place + payRoom }
+    requires { place + pay_room ≤ length out.old }
+    ensures puts { Puts out.old place (pay_line participant cents) out.new result }
+    ensures upper_bound { result ≤ place + pay_room }
 {
     if cents == 0 {
         return place;
@@ -60,9 +60,9 @@ fn put_pay(out: &mut [u8], place: usize, participant: u64, cents: u64) -> usize
 
 // The lines of all payouts.
 pub fn put_pays(out: &mut [u8], place: usize, words: &Words) -> usize
-    requires { place + places * payRoom ≤ length out.old }
-    ensures puts { Puts out.old place (payLines words.now places) out.new result }
-    ensures upper_bound { result ≤ place + places * payRoom }
+    requires { place + places * pay_room ≤ length out.old }
+    ensures puts { Puts out.old place (pay_lines words.now places) out.new result }
+    ensures upper_bound { result ≤ place + places * pay_room }
 {
     let mut next = place;
     for i in 0..WORDS {

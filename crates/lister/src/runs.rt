@@ -1,9 +1,9 @@
 // Runs of the book, and their lines.
 ghost use Rattle.std.specs.Prelude.{◌≡◌, ◌+◌, ◌*◌, ◌≤◌, length};
 ghost use Rattle.text.specs.Puts.{Puts};
-ghost use Rattle.lister.specs.inner.Runs.{lineRoom, linesTo, lastPaid, runLines};
+ghost use Rattle.lister.specs.inner.Runs.{line_room, lines_to, last_paid, run_lines};
 ghost use Rattle.lister.specs.Turns.{waiting};
-ghost use Rattle.lister.specs.inner.Blocks.{outRoom, Ready, RunsListed};
+ghost use Rattle.lister.specs.inner.Blocks.{out_room, Ready, RunsListed};
 
 use crate::blocks::{Next, Out, Standing, WAITING};
 use crate::lines::{Words, put_line, put_pays};
@@ -16,9 +16,9 @@ pub type Lines = [u64; LINES];
 
 // The lines of the first `count` entries of a run, numbered from `first` on.
 fn put_lines(out: &mut [u8], place: usize, first: u64, lines: &Lines, count: usize) -> usize
-    requires { (count ≤ 512) × (place + count * lineRoom ≤ length out.old) }
-    ensures puts { Puts out.old place (linesTo first lines.now count) out.new result }
-    ensures upper_bound { result ≤ place + count * lineRoom }
+    requires { (count ≤ 512) × (place + count * line_room ≤ length out.old) }
+    ensures puts { Puts out.old place (lines_to first lines.now count) out.new result }
+    ensures upper_bound { result ≤ place + count * line_room }
 {
     let mut next = place;
     for i in 0..count {
@@ -32,7 +32,7 @@ fn put_lines(out: &mut [u8], place: usize, first: u64, lines: &Lines, count: usi
 // The cents paid by the last of these entries; 0 where there is none.
 fn last_paid(lines: &Lines, count: usize) -> u64
     requires { count ≤ 512 }
-    ensures { result ≡ lastPaid lines.now count }
+    ensures { result ≡ last_paid lines.now count }
 {
     if count == 0 {
         return 0;
@@ -51,8 +51,8 @@ fn put_run(
     words: &Words,
 ) -> usize
     requires { (place ≤ waiting) × (count ≤ 512) }
-    ensures puts { Puts out.old place (runLines first lines.now count words.now) out.new result }
-    ensures upper_bound { result ≤ outRoom }
+    ensures puts { Puts out.old place (run_lines first lines.now count words.now) out.new result }
+    ensures upper_bound { result ≤ out_room }
 {
     let next = put_lines(out, place, first, lines, count);
     if last_paid(lines, count) == 0 {

@@ -8,11 +8,11 @@ use native.Mathlib.Omega.{arith}
 use mathlib.Core.List.{List}
 use lib.Dec.{leb}
 use Rattle.exact.specs.Rows.{at, sum, cells}
-use Rattle.exact.proofs.Cases.{cases-le}
-use Rattle.exact.proofs.RowLaws.{sum-cong, sum_mono, sum-add, sum-times, cells-cong, holds, sum-holds}
-use Rattle.settlement.specs.Sharing.{leftoverCent, floorShare, remainder, leftover, shareByWeight, Shareable, SharesAreExact}
-use Rattle.settlement.specs.inner.Cuts.{countFrom}
-use Rattle.settlement.proofs.Ranks.{cent-is, cents-total, cent-cong, count-le, rank-past}
+use Rattle.exact.proofs.Cases.{cases_le}
+use Rattle.exact.proofs.RowLaws.{sum_cong, sum_mono, sum_add, sum_times, cells_cong, holds, sum_holds}
+use Rattle.settlement.specs.Sharing.{leftover_cent, floor_share, remainder, leftover, share_by_weight, Shareable, SharesAreExact}
+use Rattle.settlement.specs.inner.Cuts.{count_from}
+use Rattle.settlement.proofs.Ranks.{cent_is, cents_total, cent_cong, count_le, rank_past}
 
 module _ (w : ℕ → ℕ) (amount total n : ℕ) (can : Shareable w amount total n) where
   abbrev rest : ℕ → ℕ
@@ -20,10 +20,10 @@ module _ (w : ℕ → ℕ) (amount total n : ℕ) (can : Shareable w amount tota
 
   -- how many divisions have a remainder
   abbrev uneven : ℕ
-  uneven = countFrom rest n 1
+  uneven = count_from rest n 1
 
-  divided : (i : ℕ) → floorShare w amount total i * total + rest i ≡ w i * amount
-  unfolding floorShare remainder
+  divided : (i : ℕ) → floor_share w amount total i * total + rest i ≡ w i * amount
+  unfolding floor_share remainder
   divided i = div-add-mod' (w i * amount) total
 
   pub rest_lt : (i : ℕ) → remainder w amount total i < total
@@ -31,129 +31,129 @@ module _ (w : ℕ → ℕ) (amount total n : ℕ) (can : Shareable w amount tota
   rest_lt i = mod-lt (w i * amount) can.some
 
   -- shares rounded down and remainders make up the amount
-  divided-all : sum (floorShare w amount total) n * total + sum rest n ≡ amount * total
-  divided-all = omega (
+  divided_all : sum (floor_share w amount total) n * total + sum rest n ≡ amount * total
+  divided_all = omega (
     arith,
-    sum-cong (λ i. floorShare w amount total i * total + rest i) (λ i. w i * amount) n (λ i _. divided i),
-    sum-add (λ i. floorShare w amount total i * total) rest n,
-    sum-times (floorShare w amount total) total n,
-    sum-times w amount n,
+    sum_cong (λ i. floor_share w amount total i * total + rest i) (λ i. w i * amount) n (λ i _. divided i),
+    sum_add (λ i. floor_share w amount total i * total) rest n,
+    sum_times (floor_share w amount total) total n,
+    sum_times w amount n,
     ap (λ (t : ℕ). t * amount) can.whole,
     mul_comm amount total,
   )
 
-  pub floors-le : sum (floorShare w amount total) n ≤ amount
-  floors-le = le_of_mul-le-mul_right (omega (arith, divided-all)) can.some
+  pub floors_le : sum (floor_share w amount total) n ≤ amount
+  floors_le = le_of_mul-le-mul_right (omega (arith, divided_all)) can.some
 
-  leftover-is : sum (floorShare w amount total) n + leftover w amount total n ≡ amount
+  leftover_is : sum (floor_share w amount total) n + leftover w amount total n ≡ amount
   unfolding leftover
-  leftover-is = omega (arith, floors-le)
+  leftover_is = omega (arith, floors_le)
 
   -- a remainder is below the total, and counts where it is not 0
-  uneven-some : (i : ℕ) → rest i ≤ cond (leb 1 (rest i)) 1 0 * total
-  uneven-some i =
-      cases-le (λ z. rest i ≤ z * total) 1 (rest i) (λ p. omega (arith, rest_lt i)) (λ z. omega arith)
+  uneven_some : (i : ℕ) → rest i ≤ cond (leb 1 (rest i)) 1 0 * total
+  uneven_some i =
+      cases_le (λ z. rest i ≤ z * total) 1 (rest i) (λ p. omega (arith, rest_lt i)) (λ z. omega arith)
 
   -- not more cents are left over than divisions have a remainder
-  leftover-le-uneven : leftover w amount total n ≤ uneven
-  unfolding countFrom
-  leftover-le-uneven =
+  leftover_le_uneven : leftover w amount total n ≤ uneven
+  unfolding count_from
+  leftover_le_uneven =
       le_of_mul-le-mul_right
       (omega (
         arith,
-        divided-all,
-        add-mul (sum (floorShare w amount total) n) (leftover w amount total n) total,
-        ap (λ (a : ℕ). a * total) leftover-is,
-        sum_mono rest (λ i. cond (leb 1 (rest i)) 1 0 * total) n (λ i _. uneven-some i),
-        sum-times (λ i. cond (leb 1 (rest i)) 1 0) total n,
+        divided_all,
+        add-mul (sum (floor_share w amount total) n) (leftover w amount total n) total,
+        ap (λ (a : ℕ). a * total) leftover_is,
+        sum_mono rest (λ i. cond (leb 1 (rest i)) 1 0 * total) n (λ i _. uneven_some i),
+        sum_times (λ i. cond (leb 1 (rest i)) 1 0) total n,
       ))
       can.some
 
-  pub leftover-le : leftover w amount total n ≤ n
-  leftover-le = omega (arith, leftover-le-uneven, count-le rest n 1)
+  pub leftover_le : leftover w amount total n ≤ n
+  leftover_le = omega (arith, leftover_le_uneven, count_le rest n 1)
 
   -- a share is rounded down, or it has a cent more where the division has a remainder
-  share-cases : (i : ℕ) → (shareByWeight w amount total n i ≡ floorShare w amount total i)
-      ⊎ ((shareByWeight w amount total n i ≡ floorShare w amount total i + 1) × (0 < rest i))
-  unfolding shareByWeight
-  share-cases i =
-      let is = cent-is rest n (leftover w amount total n) i in
+  share_cases : (i : ℕ) → (share_by_weight w amount total n i ≡ floor_share w amount total i)
+      ⊎ ((share_by_weight w amount total n i ≡ floor_share w amount total i + 1) × (0 < rest i))
+  unfolding share_by_weight
+  share_cases i =
+      let is = cent_is rest n (leftover w amount total n) i in
       ⊎_elim
-      (λ (z : rest i ≡ 0). inl (omega (arith, is, leftover-le-uneven, rank-past rest n 1 i (omega arith))))
+      (λ (z : rest i ≡ 0). inl (omega (arith, is, leftover_le_uneven, rank_past rest n 1 i (omega arith))))
       (λ (p : 0 < rest i).
-      ⊎_elim (λ (z : leftoverCent rest n (leftover w amount total n) i ≡ 0). inl (omega (arith, z)))
-      (λ (o : 0 < leftoverCent rest n (leftover w amount total n) i). inr (omega (arith, is, o), p))
+      ⊎_elim (λ (z : leftover_cent rest n (leftover w amount total n) i ≡ 0). inl (omega (arith, z)))
+      (λ (o : 0 < leftover_cent rest n (leftover w amount total n) i). inr (omega (arith, is, o), p))
       (eq-zero-or-pos _))
       (eq-zero-or-pos (rest i))
 
-  share-within : (i : ℕ) → shareByWeight w amount total n i ≤ w i
-  share-within i =
+  share_within : (i : ℕ) → share_by_weight w amount total n i ≤ w i
+  share_within i =
       let under = mul-le-mul_left (w i) can.within in
       ⊎_elim
-      (λ (e : shareByWeight w amount total n i ≡ floorShare w amount total i).
+      (λ (e : share_by_weight w amount total n i ≡ floor_share w amount total i).
       rw e (le_of_mul-le-mul_right (omega (arith, divided i, under)) can.some))
-      (λ (e : (shareByWeight w amount total n i ≡ floorShare w amount total i + 1) × (0 < rest i)).
-      let l : floorShare w amount total i < w i = lt_of_mul-lt-mul_right total (omega (arith, divided i, under, e.1)) in
+      (λ (e : (share_by_weight w amount total n i ≡ floor_share w amount total i + 1) × (0 < rest i)).
+      let l : floor_share w amount total i < w i = lt_of_mul-lt-mul_right total (omega (arith, divided i, under, e.1)) in
       omega (arith, l, e.0))
-      (share-cases i)
+      (share_cases i)
 
-  share-near : (i : ℕ) → let s = shareByWeight w amount total n i in
+  share_near : (i : ℕ) → let s = share_by_weight w amount total n i in
       (s * total < w i * amount + total) × (w i * amount < s * total + total)
-  share-near i =
+  share_near i =
       ⊎_elim
-      (λ (e : shareByWeight w amount total n i ≡ floorShare w amount total i).
+      (λ (e : share_by_weight w amount total n i ≡ floor_share w amount total i).
       rw e (omega (arith, divided i, can.some), omega (arith, divided i, rest_lt i)))
-      (λ (e : (shareByWeight w amount total n i ≡ floorShare w amount total i + 1) × (0 < rest i)).
-      let more = add-mul (floorShare w amount total i) 1 total in
+      (λ (e : (share_by_weight w amount total n i ≡ floor_share w amount total i + 1) × (0 < rest i)).
+      let more = add-mul (floor_share w amount total i) 1 total in
       rw e.0 (omega (arith, divided i, more, e.1), omega (arith, divided i, more, rest_lt i)))
-      (share-cases i)
+      (share_cases i)
 
-  share-total : sum (shareByWeight w amount total n) n ≡ amount
-  unfolding shareByWeight
-  share-total = omega (
+  share_total : sum (share_by_weight w amount total n) n ≡ amount
+  unfolding share_by_weight
+  share_total = omega (
     arith,
-    leftover-is,
-    sum-add (floorShare w amount total) (leftoverCent rest n (leftover w amount total n)) n,
-    cents-total rest n (leftover w amount total n) leftover-le,
+    leftover_is,
+    sum_add (floor_share w amount total) (leftover_cent rest n (leftover w amount total n)) n,
+    cents_total rest n (leftover w amount total n) leftover_le,
   )
 
-pub shares-are-exact : SharesAreExact
-shares-are-exact w amount total n can = record {
-  all-shared = share-total w amount total n can;
-  within = share-within w amount total n can;
-  less-above = λ i. (share-near w amount total n can i).0;
-  less-below = λ i. (share-near w amount total n can i).1;
+pub shares_are_exact : SharesAreExact
+shares_are_exact w amount total n can = record {
+  all_shared = share_total w amount total n can;
+  within = share_within w amount total n can;
+  less_above = λ i. (share_near w amount total n can i).0;
+  less_below = λ i. (share_near w amount total n can i).1;
 }
 
 -- shares go by the weights below n
 module _ (w u : ℕ → ℕ) (amount total n : ℕ) (same : (i : ℕ) → i < n → w i ≡ u i) where
-  floor-cong : (i : ℕ) → i < n → floorShare w amount total i ≡ floorShare u amount total i
-  unfolding floorShare
-  floor-cong i h = rw (same i h)
+  floor_cong : (i : ℕ) → i < n → floor_share w amount total i ≡ floor_share u amount total i
+  unfolding floor_share
+  floor_cong i h = rw (same i h)
 
-  remainder-cong : (i : ℕ) → i < n → remainder w amount total i ≡ remainder u amount total i
+  remainder_cong : (i : ℕ) → i < n → remainder w amount total i ≡ remainder u amount total i
   unfolding remainder
-  remainder-cong i h = rw (same i h)
+  remainder_cong i h = rw (same i h)
 
-  pub by-weight-cong : (i : ℕ) → i < n → shareByWeight w amount total n i ≡ shareByWeight u amount total n i
-  unfolding shareByWeight leftover
-  by-weight-cong i h =
-      rw (floor-cong i h, sum-cong _ _ n floor-cong, cent-cong (remainder w amount total) (remainder u amount total) n (amount - sum (floorShare u amount total) n) remainder-cong i h)
+  pub by_weight_cong : (i : ℕ) → i < n → share_by_weight w amount total n i ≡ share_by_weight u amount total n i
+  unfolding share_by_weight leftover
+  by_weight_cong i h =
+      rw (floor_cong i h, sum_cong _ _ n floor_cong, cent_cong (remainder w amount total) (remainder u amount total) n (amount - sum (floor_share u amount total) n) remainder_cong i h)
 
 -- the same from arrays of the shares rounded down and of the remainders
-module _ (w : ℕ → ℕ) (amount total n : ℕ) (a r : List ℕ) (floors : a ≡ cells (floorShare w amount total) n) (rests : r ≡ cells (remainder w amount total) n) where
-  pub leftover-given : amount - sum (at a) n ≡ leftover w amount total n
+module _ (w : ℕ → ℕ) (amount total n : ℕ) (a r : List ℕ) (floors : a ≡ cells (floor_share w amount total) n) (rests : r ≡ cells (remainder w amount total) n) where
+  pub leftover_given : amount - sum (at a) n ≡ leftover w amount total n
   unfolding leftover
-  leftover-given = ap (λ (s : ℕ). amount - s) (sum-holds (holds (floorShare w amount total) n floors))
+  leftover_given = ap (λ (s : ℕ). amount - s) (sum_holds (holds (floor_share w amount total) n floors))
 
-  pub share-given : cells (λ i. at a i + leftoverCent (at r) n (amount - sum (at a) n) i) n ≡ cells (shareByWeight w amount total n) n
-  unfolding shareByWeight
-  share-given =
-      cells-cong _ _ n (λ i h.
-      rw (leftover-given, (holds (floorShare w amount total) n floors).reads i h)
-      (ap (λ (c : ℕ). floorShare w amount total i + c) (cent-cong (at r) (remainder w amount total) n (leftover w amount total n) (holds (remainder w amount total) n rests).reads i h)))
+  pub share_given : cells (λ i. at a i + leftover_cent (at r) n (amount - sum (at a) n) i) n ≡ cells (share_by_weight w amount total n) n
+  unfolding share_by_weight
+  share_given =
+      cells_cong _ _ n (λ i h.
+      rw (leftover_given, (holds (floor_share w amount total) n floors).reads i h)
+      (ap (λ (c : ℕ). floor_share w amount total i + c) (cent_cong (at r) (remainder w amount total) n (leftover w amount total n) (holds (remainder w amount total) n rests).reads i h)))
 
   -- where nothing is left over they are the shares
-  pub share-even : amount - sum (at a) n ≡ 0 → a ≡ cells (shareByWeight w amount total n) n
-  unfolding shareByWeight
-  share-even z = floors ∙ cells-cong _ _ n (λ i _. omega (arith, z, leftover-given, cent-is (remainder w amount total) n (leftover w amount total n) i))
+  pub share_even : amount - sum (at a) n ≡ 0 → a ≡ cells (share_by_weight w amount total n) n
+  unfolding share_by_weight
+  share_even z = floors ∙ cells_cong _ _ n (λ i _. omega (arith, z, leftover_given, cent_is (remainder w amount total) n (leftover w amount total n) i))

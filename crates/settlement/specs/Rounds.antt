@@ -2,12 +2,12 @@
 -- positive balances (01, Settlement, step 4; 14.59(4) and (5)).
 use Rattle.std.specs.Prelude.{ℕ, zero, suc, ◌+◌, ◌-◌, ◌*◌, ◌≤◌, ◌<◌, min, ◌≡◌, ◌⊎◌, cond, eqb}
 use Rattle.exact.specs.Rows.{places, sum}
-use Rattle.exact.specs.Division.{ceilDiv}
-use Rattle.settlement.specs.Month.{sideLimit}
+use Rattle.exact.specs.Division.{ceil_div}
+use Rattle.settlement.specs.Month.{side_limit}
 
 -- 14.59(4)(a): the scaled amounts with the negative ones set to 0. An amount is negative where `below i` is not 0, else `above i`
-unfoldable pub negativesAtZero : (ℕ → ℕ) → (ℕ → ℕ) → ℕ → ℕ
-negativesAtZero above below i = cond (eqb (below i) 0) (above i) 0
+unfoldable pub negatives_at_zero : (ℕ → ℕ) → (ℕ → ℕ) → ℕ → ℕ
+negatives_at_zero above below i = cond (eqb (below i) 0) (above i) 0
 
 -- where the rounds stand: the balances, the deficit D, and how many rounds have run
 pub record Standing : Type 0 where
@@ -27,7 +27,7 @@ weight v balance i = cond (eqb (balance i) 0) 0 (v i)
 module _ (n : ℕ) (v : ℕ → ℕ) where
   -- what i loses: min(balance, D × V_i / W rounded up)
   unfoldable pub loss : (ℕ → ℕ) → ℕ → ℕ → ℕ
-  loss balance deficit i = min (balance i) (ceilDiv (deficit * weight v balance i) (sum (weight v balance) n))
+  loss balance deficit i = min (balance i) (ceil_div (deficit * weight v balance i) (sum (weight v balance) n))
 
   -- one round, all from the balances and the deficit at its start
   unfoldable pub round : Standing → Standing
@@ -58,8 +58,8 @@ module _ (n : ℕ) (v : ℕ → ℕ) where
 pub record Backing (n : ℕ) (v balance : ℕ → ℕ) (deficit : ℕ) : Type 0 where
   pub few : n ≤ places
   pub backed : (i : ℕ) → i < n → balance i ≤ v i
-  pub revised-total : sum v n ≤ sideLimit
-  pub deficit-bound : deficit ≤ sideLimit
+  pub revised_total : sum v n ≤ side_limit
+  pub deficit_bound : deficit ≤ side_limit
 
 -- n rounds are as many as can run where no balance is above its revised amount (01, Settlement, step 4: at most n)
 abbrev pub RoundsSuffice : Type 0

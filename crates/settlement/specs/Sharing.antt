@@ -14,14 +14,14 @@ module _ (remainders : ℕ → ℕ) where
   rank n i = sum (before i) n
 
 -- where so many cents are left over: 1 for each before whom fewer come than cents are left over, else 0
-unfoldable pub leftoverCent : (ℕ → ℕ) → ℕ → ℕ → ℕ → ℕ
-leftoverCent remainders n leftover i = cond (ltb (rank remainders n i) leftover) 1 0
+unfoldable pub leftover_cent : (ℕ → ℕ) → ℕ → ℕ → ℕ → ℕ
+leftover_cent remainders n leftover i = cond (ltb (rank remainders n i) leftover) 1 0
 
 -- an amount; w i is the weight of i, and the weights of all come to the total
 module _ (w : ℕ → ℕ) (amount total : ℕ) where
   -- amount × weight / total, rounded down
-  unfoldable pub floorShare : ℕ → ℕ
-  floorShare i = w i * amount / total
+  unfoldable pub floor_share : ℕ → ℕ
+  floor_share i = w i * amount / total
 
   -- the remainder of that division
   unfoldable pub remainder : ℕ → ℕ
@@ -30,11 +30,11 @@ module _ (w : ℕ → ℕ) (amount total : ℕ) where
   module _ (n : ℕ) where
     -- what the rounded shares of n participants leave over
     unfoldable pub leftover : ℕ
-    leftover = amount - sum floorShare n
+    leftover = amount - sum floor_share n
 
     -- the share of i
-    unfoldable pub shareByWeight : ℕ → ℕ
-    shareByWeight i = floorShare i + leftoverCent remainder n leftover i
+    unfoldable pub share_by_weight : ℕ → ℕ
+    share_by_weight i = floor_share i + leftover_cent remainder n leftover i
 
   -- an amount that can be shared by these weights
   pub record Shareable (n : ℕ) : Type 0 where
@@ -45,10 +45,10 @@ module _ (w : ℕ → ℕ) (amount total : ℕ) where
 -- no cent is left over, no share is above its weight, and each differs from the exact share, weight × amount / total, by less
 -- than a cent
 pub record SharedToTheCent (w : ℕ → ℕ) (amount total n : ℕ) : Type 0 where
-  pub all-shared : sum (shareByWeight w amount total n) n ≡ amount
-  pub within : (i : ℕ) → shareByWeight w amount total n i ≤ w i
-  pub less-above : (i : ℕ) → shareByWeight w amount total n i * total < w i * amount + total
-  pub less-below : (i : ℕ) → w i * amount < shareByWeight w amount total n i * total + total
+  pub all_shared : sum (share_by_weight w amount total n) n ≡ amount
+  pub within : (i : ℕ) → share_by_weight w amount total n i ≤ w i
+  pub less_above : (i : ℕ) → share_by_weight w amount total n i * total < w i * amount + total
+  pub less_below : (i : ℕ) → w i * amount < share_by_weight w amount total n i * total + total
 
 abbrev pub SharesAreExact : Type 0
 SharesAreExact = (w : ℕ → ℕ) (amount total n : ℕ) → Shareable w amount total n → SharedToTheCent w amount total n
@@ -57,8 +57,8 @@ SharesAreExact = (w : ℕ → ℕ) (amount total n : ℕ) → Shareable w amount
 pub record Renumbering (n : ℕ) : Type 0 where
   pub to : ℕ → ℕ
   pub from : ℕ → ℕ
-  pub to-within : (i : ℕ) → i < n → to i < n
-  pub from-within : (k : ℕ) → k < n → from k < n
+  pub to_within : (i : ℕ) → i < n → to i < n
+  pub from_within : (k : ℕ) → k < n → from k < n
   pub there : (i : ℕ) → i < n → from (to i) ≡ i
   pub back : (k : ℕ) → k < n → to (from k) ≡ k
 
@@ -68,4 +68,4 @@ abbrev pub OrderAmongEqualsAlone : Type 0
 OrderAmongEqualsAlone =
     (w : ℕ → ℕ) (amount total n : ℕ) (r : Renumbering n) (i : ℕ) → i < n
     → ((j : ℕ) → j < n → remainder w amount total j ≡ remainder w amount total i → ltb (r.to j) (r.to i) ≡ ltb j i)
-    → shareByWeight (λ k. w (r.from k)) amount total n (r.to i) ≡ shareByWeight w amount total n i
+    → share_by_weight (λ k. w (r.from k)) amount total n (r.to i) ≡ share_by_weight w amount total n i

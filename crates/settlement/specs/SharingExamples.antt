@@ -1,12 +1,12 @@
 -- Shares to the last cent, by example (02, g).
 use Rattle.std.specs.Prelude.{ℕ, ◌+◌, ◌≡◌, List, [], ◌∷◌, length}
 use Rattle.exact.specs.Rows.{at, sum, table}
-use Rattle.settlement.specs.Sharing.{floorShare, remainder, shareByWeight}
+use Rattle.settlement.specs.Sharing.{floor_share, remainder, share_by_weight}
 use Rattle.settlement.specs.Notice.{retention}
 use Rattle.settlement.specs.Claims.{claim}
 use Rattle.settlement.specs.Settling.{revised, paid, held}
-use Rattle.settlement.specs.Late.{latePayment}
-use Rattle.settlement.specs.Examples.{monthA, receivedA, lateA}
+use Rattle.settlement.specs.Late.{late_payment}
+use Rattle.settlement.specs.Examples.{month_a, received_a, late_a}
 
 module _ (weights : List ℕ) (amount : ℕ) where
   abbrev total : ℕ
@@ -14,27 +14,27 @@ module _ (weights : List ℕ) (amount : ℕ) where
 
   -- each share rounded down, the remainders, and the shares
   abbrev pub floors : List ℕ
-  floors = table (floorShare (at weights) amount total) (length weights)
+  floors = table (floor_share (at weights) amount total) (length weights)
 
   abbrev pub remainders : List ℕ
   remainders = table (remainder (at weights) amount total) (length weights)
 
   abbrev pub shares : List ℕ
-  shares = table (shareByWeight (at weights) amount total (length weights)) (length weights)
+  shares = table (share_by_weight (at weights) amount total (length weights)) (length weights)
 
 -- what was paid of month A after the late 100, and what the late 200 that ends its arrears pay
-abbrev pub paidThen : ℕ → ℕ
-paidThen i = paid monthA (retention monthA) receivedA i + lateA i
+abbrev pub paid_then : ℕ → ℕ
+paid_then i = paid month_a (retention month_a) received_a i + late_a i
 
-abbrev pub lastA : ℕ → ℕ
-lastA = latePayment monthA.to (claim monthA (retention monthA) receivedA) paidThen 3 (held 3 (at (400 ∷ 0 ∷ 334 ∷ [])) paidThen + 200)
+abbrev pub last_a : ℕ → ℕ
+last_a = late_payment month_a.to (claim month_a (retention month_a) received_a) paid_then 3 (held 3 (at (400 ∷ 0 ∷ 334 ∷ [])) paid_then + 200)
 
 pub record SharingExamples : Type 0 where
   -- tier 5 of month A, when 600 are left for it: the cent goes to the larger remainder
-  pub tier-5-a : (floors (0 ∷ 700 ∷ 200 ∷ []) 600 ≡ 0 ∷ 466 ∷ 133 ∷ []) × (remainders (0 ∷ 700 ∷ 200 ∷ []) 600 ≡ 0 ∷ 600 ∷ 300 ∷ []) × (shares (0 ∷ 700 ∷ 200 ∷ []) 600 ≡ 0 ∷ 467 ∷ 133 ∷ [])
-  pub revised-a : table (revised monthA (retention monthA) receivedA) 3 ≡ 0 ∷ 567 ∷ 133 ∷ []
+  pub tier_5_a : (floors (0 ∷ 700 ∷ 200 ∷ []) 600 ≡ 0 ∷ 466 ∷ 133 ∷ []) × (remainders (0 ∷ 700 ∷ 200 ∷ []) 600 ≡ 0 ∷ 600 ∷ 300 ∷ []) × (shares (0 ∷ 700 ∷ 200 ∷ []) 600 ≡ 0 ∷ 467 ∷ 133 ∷ [])
+  pub revised_a : table (revised month_a (retention month_a) received_a) 3 ≡ 0 ∷ 567 ∷ 133 ∷ []
   -- the late 200 of its listing, after which nothing is in arrears
-  pub last-a : (table lastA 3 ≡ 0 ∷ 155 ∷ 45 ∷ []) × (held 3 (at (600 ∷ 0 ∷ 334 ∷ [])) (λ i. paidThen i + lastA i) ≡ 0)
+  pub last_a_lem : (table last_a 3 ≡ 0 ∷ 155 ∷ 45 ∷ []) × (held 3 (at (600 ∷ 0 ∷ 334 ∷ [])) (λ i. paid_then i + last_a i) ≡ 0)
   -- two cents for three equal remainders: the lower numbers have them
   pub equal : shares (1 ∷ 1 ∷ 1 ∷ []) 2 ≡ 1 ∷ 1 ∷ 0 ∷ []
   -- equal remainders of unlike weights: the lower number has the cent
@@ -47,6 +47,6 @@ pub record SharingExamples : Type 0 where
   -- one participant alone has all
   pub alone : shares (7 ∷ []) 5 ≡ 5 ∷ []
   -- a cent less than the weights come to, all of it, and nothing
-  pub but-one : shares (1 ∷ 1 ∷ 1 ∷ 1 ∷ []) 3 ≡ 1 ∷ 1 ∷ 1 ∷ 0 ∷ []
+  pub but_one : shares (1 ∷ 1 ∷ 1 ∷ 1 ∷ []) 3 ≡ 1 ∷ 1 ∷ 1 ∷ 0 ∷ []
   pub all : shares (7 ∷ 2 ∷ 5 ∷ []) 14 ≡ 7 ∷ 2 ∷ 5 ∷ []
   pub nothing : shares (7 ∷ 2 ∷ 5 ∷ []) 0 ≡ 0 ∷ 0 ∷ 0 ∷ []

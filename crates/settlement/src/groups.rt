@@ -1,7 +1,7 @@
 // Related groups: sums over the members of each, its shortfall, and sums over all who are outside it.
 ghost use Rattle.std.specs.Prelude.{◌≡◌, ℕ, ◌+◌, ◌-◌, ◌^◌, ◌≤◌, ◌<◌};
 ghost use Rattle.exact.specs.Rows.{places, at, sum, cells};
-ghost use Rattle.settlement.specs.Groups.{groupCount, groupingAllowed, groupSum, outsideSum, shortfallWithReserve};
+ghost use Rattle.settlement.specs.Groups.{group_count, grouping_allowed, group_sum, outside_sum, shortfall_with_reserve};
 
 use exact::{Row, excesses, largest, total};
 
@@ -24,7 +24,7 @@ pub struct Grouping {
 // Whether the group numbers of n participants and all reserves are within their values.
 pub fn is_grouping_allowed(grouping: Grouping, n: usize) -> bool
     requires { n ≤ places }
-    ensures { result ≡ groupingAllowed n grouping }
+    ensures { result ≡ grouping_allowed n grouping }
 {
     let groups = grouping.groups;
     if largest(groups, n) < GROUPS as u64 {
@@ -36,8 +36,8 @@ pub fn is_grouping_allowed(grouping: Grouping, n: usize) -> bool
 
 // The sum of a row over the members of each group, in one pass over the participants.
 pub fn group_sums(a: Row, groups: Row, n: usize) -> GroupRow
-    requires { (n ≤ places) × (sum (at a) n < 2 ^ 64) × ((i : ℕ) → i < n → at groups i < groupCount) }
-    ensures { result ≡ cells (groupSum (at groups) n (at a)) groupCount }
+    requires { (n ≤ places) × (sum (at a) n < 2 ^ 64) × ((i : ℕ) → i < n → at groups i < group_count) }
+    ensures { result ≡ cells (group_sum (at groups) n (at a)) group_count }
 {
     let mut out = [0u64; GROUPS];
     for i in 0..n {
@@ -49,8 +49,8 @@ pub fn group_sums(a: Row, groups: Row, n: usize) -> GroupRow
 
 // The sum of a row over all who are outside each group: g, where the row is G.
 pub fn outside_sums(a: Row, groups: Row, n: usize) -> GroupRow
-    requires { (n ≤ places) × (sum (at a) n < 2 ^ 64) × ((i : ℕ) → i < n → at groups i < groupCount) }
-    ensures { result ≡ cells (outsideSum (at groups) n (at a)) groupCount }
+    requires { (n ≤ places) × (sum (at a) n < 2 ^ 64) × ((i : ℕ) → i < n → at groups i < group_count) }
+    ensures { result ≡ cells (outside_sum (at groups) n (at a)) group_count }
 {
     let inside = group_sums(a, groups, n);
     let whole = [total(a, n); GROUPS];
@@ -60,15 +60,15 @@ pub fn outside_sums(a: Row, groups: Row, n: usize) -> GroupRow
 // s of a group, from the sums of what is owing by its members and to them, and its reserve.
 fn shortfall_with_reserve(by: u64, to: u64, reserve: u64) -> u64
     requires { by - to + reserve < 2 ^ 64 }
-    ensures { result ≡ shortfallWithReserve by to reserve }
+    ensures { result ≡ shortfall_with_reserve by to reserve }
 {
     if to < by { by - to + reserve } else { 0 }
 }
 
 // s of each group.
 pub fn shortfalls(by: GroupRow, to: GroupRow, reserves: GroupRow) -> GroupRow
-    requires { (k : ℕ) → k < groupCount → at by k - at to k + at reserves k < 2 ^ 64 }
-    ensures { result ≡ cells (λ k. shortfallWithReserve (at by k) (at to k) (at reserves k)) groupCount }
+    requires { (k : ℕ) → k < group_count → at by k - at to k + at reserves k < 2 ^ 64 }
+    ensures { result ≡ cells (λ k. shortfall_with_reserve (at by k) (at to k) (at reserves k)) group_count }
 {
     let mut out = [0u64; GROUPS];
     for k in 0..GROUPS {

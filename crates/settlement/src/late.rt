@@ -1,8 +1,8 @@
 // Late money: what is missing of each claim, tier by tier, and what money pays of it.
 ghost use Rattle.std.specs.Prelude.{◌≡◌, ◌-◌, ◌≤◌, min};
 ghost use Rattle.exact.specs.Rows.{places, at, sum, cells};
-ghost use Rattle.settlement.specs.Month.{sideLimit, tierAt, tierCells, overTiers};
-ghost use Rattle.settlement.specs.Late.{shortage, latePayment};
+ghost use Rattle.settlement.specs.Month.{side_limit, tier_at, tier_cells, over_tiers};
+ghost use Rattle.settlement.specs.Late.{shortage, late_payment};
 
 use crate::owing::{TIERS, TierCells, tiers_before};
 use crate::walk::meet_tiers;
@@ -20,8 +20,8 @@ fn missing(own: u64, before: u64, claim: u64, paid: u64) -> u64
 
 // What is missing of each claim in each tier.
 pub fn shortages(to: TierCells, claims: Row, paid: Row, n: usize) -> TierCells
-    requires { (n ≤ places) × (sum (overTiers (tierAt to)) n ≤ sideLimit) }
-    ensures { result ≡ tierCells (shortage (tierAt to) (at claims) (at paid)) n }
+    requires { (n ≤ places) × (sum (over_tiers (tier_at to)) n ≤ side_limit) }
+    ensures { result ≡ tier_cells (shortage (tier_at to) (at claims) (at paid)) n }
 {
     let mut out = [0u64; TIERS * PLACES];
     for k in 0..TIERS * n {
@@ -34,8 +34,8 @@ pub fn shortages(to: TierCells, claims: Row, paid: Row, n: usize) -> TierCells
 
 // What each of n participants gets of the money: what is held of the period, the late receipt added.
 pub fn late_payments(to: TierCells, claims: Row, paid: Row, money: u64, n: usize) -> Row
-    requires { (n ≤ places) × (sum (overTiers (tierAt to)) n ≤ sideLimit) }
-    ensures { result ≡ cells (latePayment (tierAt to) (at claims) (at paid) n money) n }
+    requires { (n ≤ places) × (sum (over_tiers (tier_at to)) n ≤ side_limit) }
+    ensures { result ≡ cells (late_payment (tier_at to) (at claims) (at paid) n money) n }
 {
     let wanted = shortages(to, claims, paid, n);
     meet_tiers(wanted, money, n)

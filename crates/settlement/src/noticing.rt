@@ -1,7 +1,7 @@
 // What a notice reckons for a month: retention and payable amounts.
 ghost use Rattle.std.specs.Prelude.{◌≡◌, true};
 ghost use Rattle.settlement.specs.Month.{month, Bounded};
-ghost use Rattle.settlement.specs.Groups.{groupingAllowed, noticed};
+ghost use Rattle.settlement.specs.Groups.{grouping_allowed, noticed};
 
 use crate::groups::{Grouping, group_sums, outside_sums, shortfalls};
 use crate::owing::{LAST_TIER, TierCells, over_tiers, tier};
@@ -17,7 +17,7 @@ pub struct Noticed {
 
 // The retention and payable amounts of a month, from its sums and the groups of its participants.
 pub fn notice(by: Row, to: TierCells, grouping: Grouping, n: usize) -> Noticed
-    requires { Bounded (month n by to) × (groupingAllowed n grouping ≡ true) }
+    requires { Bounded (month n by to) × (grouping_allowed n grouping ≡ true) }
     ensures { result ≡ noticed (month n by to) grouping }
 {
     let owing = over_tiers(to, n);

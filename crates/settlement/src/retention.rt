@@ -3,7 +3,7 @@
 ghost use Rattle.std.specs.Prelude.{◌≡◌, ℕ, ◌^◌, ◌≤◌, ◌<◌};
 ghost use Rattle.exact.specs.Rows.{places, at, largest, cells};
 ghost use Rattle.settlement.specs.Notice.{gives};
-ghost use Rattle.settlement.specs.Groups.{groupCount};
+ghost use Rattle.settlement.specs.Groups.{group_count};
 
 use crate::groups::{GROUPS, GroupRow};
 use exact::{PLACES, Row, larger, proportion_up};
@@ -27,8 +27,8 @@ fn gift(s: u64, g: u64, part: u64) -> u64
 
 // The largest that any group gives such a participant.
 fn largest_gift(shortfalls: GroupRow, outside: GroupRow, part: u64) -> u64
-    requires { (part < 2 ^ 44) × ((k : ℕ) → k < groupCount → at outside k < 2 ^ 44) }
-    ensures { result ≡ largest (λ k. gives (at shortfalls k) (at outside k) part) groupCount }
+    requires { (part < 2 ^ 44) × ((k : ℕ) → k < group_count → at outside k < 2 ^ 44) }
+    ensures { result ≡ largest (λ k. gives (at shortfalls k) (at outside k) part) group_count }
 {
     let mut most = 0u64;
     for k in 0..GROUPS {
@@ -39,8 +39,8 @@ fn largest_gift(shortfalls: GroupRow, outside: GroupRow, part: u64) -> u64
 
 // The largest gift to each participant: its retention, where `parts` is the row of tier 5.
 pub fn largest_gifts(shortfalls: GroupRow, outside: GroupRow, parts: Row, n: usize) -> Row
-    requires { (n ≤ places) × ((k : ℕ) → k < groupCount → at outside k < 2 ^ 44) × ((i : ℕ) → i < n → at parts i < 2 ^ 44) }
-    ensures { result ≡ cells (λ i. largest (λ k. gives (at shortfalls k) (at outside k) (at parts i)) groupCount) n }
+    requires { (n ≤ places) × ((k : ℕ) → k < group_count → at outside k < 2 ^ 44) × ((i : ℕ) → i < n → at parts i < 2 ^ 44) }
+    ensures { result ≡ cells (λ i. largest (λ k. gives (at shortfalls k) (at outside k) (at parts i)) group_count) n }
 {
     let mut out = [0u64; PLACES];
     for i in 0..n {

@@ -3,7 +3,7 @@ ghost use Rattle.std.specs.Prelude.{◌≡◌};
 ghost use Rattle.exact.specs.Rows.{at};
 ghost use Rattle.settlement.specs.Month.{month, Bounded};
 ghost use Rattle.settlement.specs.Notice.{Due};
-ghost use Rattle.settlement.specs.Settling.{scaledAmounts};
+ghost use Rattle.settlement.specs.Settling.{scaled_amounts};
 
 use crate::claims::claim;
 use crate::owing::TierCells;
@@ -23,7 +23,7 @@ pub struct Scaled {
 // The claims, revised amounts and scaled amounts of a month, from its sums, what is payable and what was received.
 pub fn scale(by: Row, to: TierCells, payables: Row, received: Row, n: usize) -> Scaled
     requires { Bounded (month n by to) × Due (month n by to) payables }
-    ensures { (due : Due (month n by to) payables) → result ≡ scaledAmounts (month n by to) due.retained (at received) }
+    ensures { (due : Due (month n by to) payables) → result ≡ scaled_amounts (month n by to) due.retained (at received) }
 {
     let c = claim(by, to, payables, received, n);
     let owing = c.owing;

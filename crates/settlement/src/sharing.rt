@@ -2,9 +2,9 @@
 // remainders of the division, equal ones to the lower participant number.
 ghost use Rattle.std.specs.Prelude.{◌≡◌, cond, eqb, leb, ℕ, ◌+◌, ◌-◌, ◌≤◌, ◌<◌, min};
 ghost use Rattle.exact.specs.Rows.{places, at, cells};
-ghost use Rattle.settlement.specs.Month.{sideLimit};
-ghost use Rattle.settlement.specs.Sharing.{floorShare, remainder, leftoverCent, shareByWeight, Shareable};
-ghost use Rattle.settlement.specs.inner.Cuts.{countFrom, CutBetween};
+ghost use Rattle.settlement.specs.Month.{side_limit};
+ghost use Rattle.settlement.specs.Sharing.{floor_share, remainder, leftover_cent, share_by_weight, Shareable};
+ghost use Rattle.settlement.specs.inner.Cuts.{count_from, CutBetween};
 
 use exact::{PLACES, Row, excess, proportion, smaller, total};
 
@@ -31,8 +31,8 @@ struct Given {
 
 // The shares of n participants rounded down, where `whole` is what their weights come to.
 fn floor_shares(weights: Row, amount: u64, whole: u64, n: usize) -> Divided
-    requires { (n ≤ places) × (whole ≤ sideLimit) × Shareable (at weights) amount whole n }
-    ensures { (result.cents ≡ cells (floorShare (at weights) amount whole) n) × (result.remainders ≡ cells (remainder (at weights) amount whole) n) }
+    requires { (n ≤ places) × (whole ≤ side_limit) × Shareable (at weights) amount whole n }
+    ensures { (result.cents ≡ cells (floor_share (at weights) amount whole) n) × (result.remainders ≡ cells (remainder (at weights) amount whole) n) }
 {
     let mut cents = [0u64; PLACES];
     let mut remainders = [0u64; PLACES];
@@ -54,7 +54,7 @@ fn one_from(remainder: u64, least: u64) -> u64
 // How many of n remainders are at least so much.
 fn count_from(remainders: &Row, least: u64, n: usize) -> u64
     requires { n ≤ places }
-    ensures { result ≡ countFrom (at remainders.now) n least }
+    ensures { result ≡ count_from (at remainders.now) n least }
 {
     let mut count = 0u64;
     for i in 0..n {
@@ -67,7 +67,7 @@ fn count_from(remainders: &Row, least: u64, n: usize) -> u64
 // is at `middle`.
 fn narrowed(low: u64, least: u64, middle: u64, count: u64, leftover: u64) -> Between
     requires { (low < middle) × (middle < least) }
-    ensures { ((remainders : ℕ → ℕ) (n : ℕ) → count ≡ countFrom remainders n middle → CutBetween remainders n leftover low least → CutBetween remainders n leftover result.low result.least) × (result.least ≤ least) × (result.least - result.low < least - low) }
+    ensures { ((remainders : ℕ → ℕ) (n : ℕ) → count ≡ count_from remainders n middle → CutBetween remainders n leftover low least → CutBetween remainders n leftover result.low result.least) × (result.least ≤ least) × (result.least - result.low < least - low) }
 {
     if leftover < count {
         return Between { low: middle, least };
@@ -84,7 +84,7 @@ fn narrowed(low: u64, least: u64, middle: u64, count: u64, leftover: u64) -> Bet
 // The cut among n remainders below `whole`, found by halving: whoever has at least so much gets a cent; of those with just one
 // less the first get the cents that are spare, and nobody below gets one.
 fn cut(remainders: &Row, leftover: u64, whole: u64, n: usize) -> u64
-    requires { (n ≤ places) × (leftover ≤ n) × (0 < whole) × (whole ≤ sideLimit) × ((i : ℕ) → i < n → at remainders.now i < whole) }
+    requires { (n ≤ places) × (leftover ≤ n) × (0 < whole) × (whole ≤ side_limit) × ((i : ℕ) → i < n → at remainders.now i < whole) }
     ensures { CutBetween (at remainders.now) n leftover (result - 1) result }
 {
     let mut low = 0u64;
@@ -118,8 +118,8 @@ fn cent_for(remainder: u64, least: u64, spare: u64) -> Given
 
 // Shares with their leftover cents, where the cut among the remainders is at `least`.
 fn with_leftover(d: Divided, leftover: u64, least: u64, n: usize) -> Row
-    requires { (n ≤ places) × CutBetween (at d.remainders) n leftover (least - 1) least × ((i : ℕ) → i < n → at d.cents i ≤ sideLimit) }
-    ensures { result ≡ cells (λ i. at d.cents i + leftoverCent (at d.remainders) n leftover i) n }
+    requires { (n ≤ places) × CutBetween (at d.remainders) n leftover (least - 1) least × ((i : ℕ) → i < n → at d.cents i ≤ side_limit) }
+    ensures { result ≡ cells (λ i. at d.cents i + leftover_cent (at d.remainders) n leftover i) n }
 {
     let cents = d.cents;
     let remainders = d.remainders;
@@ -136,8 +136,8 @@ fn with_leftover(d: Divided, leftover: u64, least: u64, n: usize) -> Row
 // What each of n participants gets of an amount by its weight, where `whole` is what the weights come to and the amount is not
 // above it.
 pub fn share_by_weight(weights: Row, amount: u64, whole: u64, n: usize) -> Row
-    requires { (n ≤ places) × (whole ≤ sideLimit) × Shareable (at weights) amount whole n }
-    ensures { result ≡ cells (shareByWeight (at weights) amount whole n) n }
+    requires { (n ≤ places) × (whole ≤ side_limit) × Shareable (at weights) amount whole n }
+    ensures { result ≡ cells (share_by_weight (at weights) amount whole n) n }
 {
     let d = floor_shares(weights, amount, whole, n);
     let cents = d.cents;

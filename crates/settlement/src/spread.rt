@@ -3,8 +3,8 @@
 // owing, AO, the revised ones are `revised`, 01's V, and AO positive is `positive`, W.
 ghost use Rattle.std.specs.Prelude.{◌≡◌, cond, eqb, ◌*◌, ◌^◌, ◌≤◌, ◌<◌, min};
 ghost use Rattle.exact.specs.Rows.{places, at, sum, cells};
-ghost use Rattle.exact.specs.Division.{ceilDiv, Proportional};
-ghost use Rattle.settlement.specs.Rounds.{negativesAtZero, weight, loss, spread, Backing};
+ghost use Rattle.exact.specs.Division.{ceil_div, Proportional};
+ghost use Rattle.settlement.specs.Rounds.{negatives_at_zero, weight, loss, spread, Backing};
 
 use exact::{PLACES, Row, excess, excesses, proportion_up, smaller, total};
 
@@ -25,7 +25,7 @@ fn unless_negative(above: u64, below: u64) -> u64
 // (4)(a): the balances are the scaled amounts with the negative ones set to 0.
 fn negatives_at_zero(above: Row, below: Row, n: usize) -> Row
     requires { n ≤ places }
-    ensures { result ≡ cells (negativesAtZero (at above) (at below)) n }
+    ensures { result ≡ cells (negatives_at_zero (at above) (at below)) n }
 {
     let mut out = [0u64; PLACES];
     for i in 0..n {
@@ -56,7 +56,7 @@ fn total_of_positive(balances: Row, revised: Row, n: usize) -> u64
 // (4)(b) for one participant: a positive balance loses AP negative × V / AO positive, by 01 rounded up and at most the balance.
 fn loss_of(balance: u64, negative: u64, revised: u64, positive: u64) -> u64
     requires { 0 < balance → Proportional negative revised positive }
-    ensures { result ≡ min balance (ceilDiv (negative * revised) positive) }
+    ensures { result ≡ min balance (ceil_div (negative * revised) positive) }
 {
     if balance == 0 {
         return 0;
@@ -79,8 +79,8 @@ fn losses(balances: Row, negative: u64, revised: Row, positive: u64, n: usize) -
 // Applies the clause to scaled amounts in two rows: `above` where they are positive, `below`, with the sign turned, where they are
 // negative.
 pub fn spread(above: Row, below: Row, revised: Row, n: usize) -> Spent
-    requires { Backing n (at revised) (negativesAtZero (at above) (at below)) (sum (at below) n) }
-    ensures { (result.rounds ≡ (spread n (at revised) (negativesAtZero (at above) (at below)) (sum (at below) n)).rounds) × (result.balances ≡ cells (spread n (at revised) (negativesAtZero (at above) (at below)) (sum (at below) n)).balance n) }
+    requires { Backing n (at revised) (negatives_at_zero (at above) (at below)) (sum (at below) n) }
+    ensures { (result.rounds ≡ (spread n (at revised) (negatives_at_zero (at above) (at below)) (sum (at below) n)).rounds) × (result.balances ≡ cells (spread n (at revised) (negatives_at_zero (at above) (at below)) (sum (at below) n)).balance n) }
 {
     // (4)(a): the balances of the negative scaled amounts are set to 0.
     let mut balances = negatives_at_zero(above, below, n);

@@ -1,7 +1,7 @@
 // The walk through the tiers: money meets them in order, in settlement and with late money alike.
 ghost use Rattle.std.specs.Prelude.{◌≡◌, ◌≤◌};
 ghost use Rattle.exact.specs.Rows.{places, at, sum, cells};
-ghost use Rattle.settlement.specs.Month.{sideLimit, tierAt, overTiers};
+ghost use Rattle.settlement.specs.Month.{side_limit, tier_at, over_tiers};
 ghost use Rattle.settlement.specs.Tiers.{share, met};
 
 use crate::owing::{TIERS, TierCells, tier};
@@ -11,7 +11,7 @@ use exact::{PLACES, Row, excess, sums, total};
 // What a tier gives each of n participants of the money left, where `whole` is its total: all that it wants where it can be met,
 // else shares by what it wants.
 fn tier_share(wanted: Row, left: u64, whole: u64, n: usize) -> Row
-    requires { (n ≤ places) × (whole ≡ sum (at wanted) n) × (whole ≤ sideLimit) × (wanted ≡ cells (at wanted) n) }
+    requires { (n ≤ places) × (whole ≡ sum (at wanted) n) × (whole ≤ side_limit) × (wanted ≡ cells (at wanted) n) }
     ensures { result ≡ cells (share n (at wanted) left) n }
 {
     if whole <= left {
@@ -26,8 +26,8 @@ fn tier_share(wanted: Row, left: u64, whole: u64, n: usize) -> Row
 
 // What each of n participants gets of the money over all tiers, where tier t wants what `wanted` has there.
 pub fn meet_tiers(wanted: TierCells, money: u64, n: usize) -> Row
-    requires { (n ≤ places) × (sum (overTiers (tierAt wanted)) n ≤ sideLimit) }
-    ensures { result ≡ cells (met n (tierAt wanted) money) n }
+    requires { (n ≤ places) × (sum (over_tiers (tier_at wanted)) n ≤ side_limit) }
+    ensures { result ≡ cells (met n (tier_at wanted) money) n }
 {
     let mut out = [0u64; PLACES];
     let mut left = money;

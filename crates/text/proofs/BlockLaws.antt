@@ -8,14 +8,14 @@ use lib.ListN.{length, set, get_or, take, drop, length-append, length-drop}
 use lib.Seq.{length-take-le, take_at, take-add, drop_at, get_or-drop, take-suc, drop-cons, set_at, append_snoc}
 use Rattle.text.specs.Blocks.{kept}
 
-pub kept-none : (b : List ℕ) (from : ℕ) → b ≡ kept b from 0
+pub kept_none : (b : List ℕ) (from : ℕ) → b ≡ kept b from 0
 unfolding kept
-kept-none b from = refl
+kept_none b from = refl
 
 module _ (b : List ℕ) (from i : ℕ) where
-  pub kept-length : i ≤ length b - from → length (kept b from i) ≡ length b
+  pub kept_length : i ≤ length b - from → length (kept b from i) ≡ length b
   unfolding kept
-  kept-length h = omega (arith, length-append (take i (drop from b)) (drop i b), length-take-le i (drop from b) (omega (arith, length-drop from b)), length-drop i b)
+  kept_length h = omega (arith, length-append (take i (drop from b)) (drop i b), length-take-le i (drop from b) (omega (arith, length-drop from b)), length-drop i b)
 
   -- a byte moved to the front, when those before it are there
   pub kept_more : from + i < length b → set (kept b from i) i (get_or (kept b from i) (from + i) 0) ≡ kept b from (i + 1)
@@ -36,15 +36,15 @@ module _ (b : List ℕ) (from i : ℕ) where
       (set_at (take i s) (get_or b i 0) (drop (suc i) b) (get_or s i 0) i front ∙ sym (append_snoc (take i s) (get_or s i 0) (drop (suc i) b)))
 
 -- the bytes from one place up to another, in two ways
-part-front : (b : List ℕ) (from to : ℕ) → to ≤ length b → from ≤ to → take (to - from) (drop from b) ≡ drop from (take to b)
-part-front b from to h k =
+part_front : (b : List ℕ) (from to : ℕ) → to ≤ length b → from ≤ to → take (to - from) (drop from b) ≡ drop from (take to b)
+part_front b from to h k =
     let e : from + (to - from) ≡ to = omega arith in
     let m : length (take from b) ≡ from = length-take-le from b (omega arith) in
     sym (drop_at (take from b) (take (to - from) (drop from b)) from m) ∙ ap (drop from) (sym (take-add from (to - from) b) ∙ ap (λ (j : ℕ). take j b) e)
 
 -- what was kept stands in front
-pub kept-front : (b : List ℕ) (from to : ℕ) → to ≤ length b → from ≤ to → take (to - from) (kept b from (to - from)) ≡ drop from (take to b)
+pub kept_front : (b : List ℕ) (from to : ℕ) → to ≤ length b → from ≤ to → take (to - from) (kept b from (to - from)) ≡ drop from (take to b)
 unfolding kept
-kept-front b from to h k =
+kept_front b from to h k =
     let n : length (take (to - from) (drop from b)) ≡ to - from = length-take-le (to - from) (drop from b) (omega (arith, length-drop from b)) in
-    take_at (take (to - from) (drop from b)) (drop (to - from) b) (to - from) n ∙ part-front b from to h k
+    take_at (take (to - from) (drop from b)) (drop (to - from) b) (to - from) n ∙ part_front b from to h k

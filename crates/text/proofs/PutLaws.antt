@@ -27,5 +27,5 @@ puts_then {b} {c} {d} {l} {m} {p} {q} {r} f s = record {
 pub puts_none : (b : List ℕ) (p : ℕ) → Puts b p [] b p
 puts_none b p = record { bytes = refl; next = omega arith }
 
-pub puts-length : {b c l : List ℕ} {p q : ℕ} → Puts b p l c q → length c ≡ length b
-puts-length {b} {c} {l} {p} f = ap length f.bytes ∙ length-sets b p l
+pub puts_length : {b c l : List ℕ} {p q : ℕ} → Puts b p l c q → length c ≡ length b
+puts_length {b} {c} {l} {p} f = ap length f.bytes ∙ length-sets b p l

@@ -10,15 +10,15 @@ abbrev pub most : ℕ
 most = 2 ^ 64 - 1
 
 -- what the last read left
-abbrev pub isEnded : Last → Bool
-isEnded More = false
-isEnded Ended = true
-isEnded Failed = false
+abbrev pub is_ended : Last → Bool
+is_ended More = false
+is_ended Ended = true
+is_ended Failed = false
 
-abbrev pub isFailed : Last → Bool
-isFailed More = false
-isFailed Ended = false
-isFailed Failed = true
+abbrev pub is_failed : Last → Bool
+is_failed More = false
+is_failed Ended = false
+is_failed Failed = true
 
 -- what a read left of which C answered `got`, by how many bytes came; C answers -1 where it fails
 unfoldable pub last_of : ℤ → ℕ → Last

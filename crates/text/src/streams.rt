@@ -1,7 +1,7 @@
 // Standard input, output and error. The fields of a stream are private: only these functions count bytes, or say that an
 // input ended or failed. A caller makes each stream once, and hands each call the one that the call before gave.
 ghost use Rattle.std.specs.Prelude.{◌+◌, ◌^◌, ◌≤◌, ◌<◌, min, ◌≡◌, true, length};
-ghost use Rattle.text.specs.Streams.{most, isEnded, isFailed, last_of, Fetches};
+ghost use Rattle.text.specs.Streams.{most, is_ended, is_failed, last_of, Fetches};
 ghost use Rattle.text.specs.declared.streams.Last.TheVariants.{More};
 
 use libc::{STDERR_FILENO, STDIN_FILENO, STDOUT_FILENO};
@@ -61,7 +61,7 @@ pub fn unwritten() -> Output
 
 // Whether the last read was at the end of the input.
 pub fn has_ended(i: Input) -> bool
-    ensures { result ≡ isEnded i.last }
+    ensures { result ≡ is_ended i.last }
 {
     let last = i.last;
     match last {
@@ -73,7 +73,7 @@ pub fn has_ended(i: Input) -> bool
 
 // Whether the last read failed.
 pub fn has_failed(i: Input) -> bool
-    ensures { result ≡ isFailed i.last }
+    ensures { result ≡ is_failed i.last }
 {
     let last = i.last;
     match last {

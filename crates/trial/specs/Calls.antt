@@ -4,12 +4,12 @@ use Rattle.trial.specs.declared.calls.Call.{Call}
 use Rattle.trial.specs.declared.calls.Call.TheVariants.{Make, MakeGrouped, MakeLimited, Apply, Read, Write, More, Stop}
 
 -- 0 where none stands there whole
-abbrev pub callLength : Call → ℕ
-callLength Make = 9
-callLength MakeGrouped = 585
-callLength MakeLimited = 601
-callLength Apply = 34
-callLength (Read count) = 11 + count
-callLength Write = 34
-callLength More = 0
-callLength Stop = 0
+abbrev pub call_length : Call → ℕ
+call_length Make = 9
+call_length MakeGrouped = 585
+call_length MakeLimited = 601
+call_length Apply = 34
+call_length (Read count) = 11 + count
+call_length Write = 34
+call_length More = 0
+call_length Stop = 0

@@ -1,7 +1,7 @@
 // The calls of the book's functions, each with its line.
 ghost use Rattle.std.specs.Prelude.{◌+◌, ◌≤◌, ◌<◌, length};
 ghost use Rattle.book.specs.rules.Valid.{Valid};
-ghost use Rattle.trial.specs.Calls.{callLength};
+ghost use Rattle.trial.specs.Calls.{call_length};
 
 use crate::calls::{Call, READ_LENGTH, entry_of, fields_at, number_at};
 use crate::lines::{NUMBERS, layout_of, put_line};
@@ -161,7 +161,7 @@ fn write(s: &[u8], out: &mut [u8; BLOCK]) -> usize
 
 // Makes the call that stands at the start of s.
 pub fn call(b: Book, c: Call, s: &[u8], out: &mut [u8; BLOCK]) -> Called
-    requires { Valid b × (callLength c ≤ length s.now) }
+    requires { Valid b × (call_length c ≤ length s.now) }
     ensures { Valid result.book × (result.wrote ≤ 65536) }
 {
     match c {

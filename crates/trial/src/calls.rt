@@ -1,6 +1,6 @@
 // The calls in the bytes that were read: one byte says which, then its fields, least significant byte first.
 ghost use Rattle.std.specs.Prelude.{◌+◌, ◌^◌, ◌≤◌, ◌<◌, ◌≡◌, length};
-ghost use Rattle.trial.specs.Calls.{callLength};
+ghost use Rattle.trial.specs.Calls.{call_length};
 
 use book::Entry;
 
@@ -158,7 +158,7 @@ fn is_kind(kind: u8) -> bool {
 
 // A call with the bytes to be read.
 fn read_call(s: &[u8]) -> Call
-    ensures { callLength result ≤ length s.now }
+    ensures { call_length result ≤ length s.now }
 {
     if s.len() < READ_LENGTH {
         return Call::More;
@@ -172,7 +172,7 @@ fn read_call(s: &[u8]) -> Call
 
 // What stands at the start of s.
 pub fn call_at(s: &[u8]) -> Call
-    ensures { callLength result ≤ length s.now }
+    ensures { call_length result ≤ length s.now }
 {
     if s.len() < 2 {
         return Call::More;
@@ -219,7 +219,7 @@ pub fn call_at(s: &[u8]) -> Call
 
 // How many bytes a call takes; 0 where none stands there whole.
 pub fn length_of(c: Call) -> usize
-    ensures { result ≡ callLength c }
+    ensures { result ≡ call_length c }
 {
     match c {
         Call::Make => MAKE_LENGTH,

@@ -1,6 +1,6 @@
 // The lines that are printed: a name, and numbers.
 ghost use Rattle.std.specs.Prelude.{◌+◌, ◌*◌, ◌≤◌, length};
-ghost use Rattle.text.specs.Numbers.{numberRoom};
+ghost use Rattle.text.specs.Numbers.{number_room};
 
 use book::Entry;
 use text::{put_bytes, put_number};
@@ -19,8 +19,8 @@ pub const NUMBERS: usize = 258;
 
 // Puts a name and the first numbers as a line; answers how many bytes it takes.
 pub fn put_line(out: &mut [u8], name: &[u8], numbers: &[u64; NUMBERS], count: usize) -> usize
-    requires { (count ≤ 258) × (length name.now + count * numberRoom ≤ length out.old) }
-    ensures { result ≤ length name.now + count * numberRoom }
+    requires { (count ≤ 258) × (length name.now + count * number_room ≤ length out.old) }
+    ensures { result ≤ length name.now + count * number_room }
 {
     let mut next = put_bytes(out, 0, name);
     for i in 0..count {

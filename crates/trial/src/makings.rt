@@ -1,6 +1,6 @@
 // What a call makes a book with.
 ghost use Rattle.std.specs.Prelude.{◌+◌, ◌*◌, ◌≤◌, length};
-ghost use Rattle.settlement.specs.Groups.{groupCount};
+ghost use Rattle.settlement.specs.Groups.{group_count};
 
 use crate::calls::number_at;
 use book::{Limits, Making};
@@ -8,7 +8,7 @@ use settlement::{GROUPS, Grouping};
 
 // Numbers of the same width, one after the other from a place on: as many as there are groups, or places for participants.
 fn numbers_at(s: &[u8], place: usize, width: usize) -> [u64; GROUPS]
-    requires { (width ≤ 8) × (place + groupCount * width ≤ length s.now) }
+    requires { (width ≤ 8) × (place + group_count * width ≤ length s.now) }
 {
     let mut numbers = [0u64; GROUPS];
     for i in 0..GROUPS {

@@ -1,55 +1,55 @@
 -- These examples come out of the definitions by computation.
 use mathlib.Core.Path.{refl}
-use Rattle.book.specs.examples.Months.{Examples, lines_from, stateAfter}
-use Rattle.book.specs.rules.Periods.{zeros, fresh, raised, sideTotal, holds, leaves, amounted, withNotice, withReceipt, withSettlement, latePays, withLateReceipt, changed}
-use Rattle.book.specs.rules.State.{heldIn, heldBy, find, arrearsBefore, earlierArrears, replaced, removed, added}
-use Rattle.book.specs.rules.Purses.{drawnFrom, withDrawn, pursesLeft, periodsAfter, pursesAfter}
+use Rattle.book.specs.examples.Months.{Examples, lines_from, state_after}
+use Rattle.book.specs.rules.Periods.{zeros, fresh, raised, side_total, holds, leaves, amounted, with_notice, with_receipt, with_settlement, late_pays, with_late_receipt, changed}
+use Rattle.book.specs.rules.State.{held_in, held_by, find, arrears_before, earlier_arrears, replaced, removed, added}
+use Rattle.book.specs.rules.Purses.{drawn_from, with_drawn, purses_left, periods_after, purses_after}
 use Rattle.book.specs.rules.Makings.{made}
 use Rattle.book.specs.rules.Refusals.{receivable}
-use Rattle.book.specs.rules.Step.{stored, payoutWords, acted, accepted, step}
+use Rattle.book.specs.rules.Step.{stored, payout_words, acted, accepted, step}
 use Rattle.exact.specs.Rows.{sum, largest, table, filled, cells}
-use Rattle.exact.specs.Division.{ceilDiv}
-use Rattle.exact.specs.Energy.{energyCents}
-use Rattle.settlement.specs.Month.{overTiers}
-use Rattle.settlement.specs.Notice.{gives, payable, fullClaim}
-use Rattle.settlement.specs.Groups.{groupingAllowed, groupSum, outsideSum, shortfallWithReserve, groupShortfall, outsideTier5, groupRetention}
-use Rattle.settlement.specs.Claims.{unpaid, setOff, arrears, claim}
-use Rattle.settlement.specs.Sharing.{before, rank, leftoverCent, floorShare, remainder, leftover, shareByWeight}
-use Rattle.settlement.specs.Tiers.{share, leftFor, tierShare, met}
+use Rattle.exact.specs.Division.{ceil_div}
+use Rattle.exact.specs.Energy.{energy_cents}
+use Rattle.settlement.specs.Month.{over_tiers}
+use Rattle.settlement.specs.Notice.{gives, payable, full_claim}
+use Rattle.settlement.specs.Groups.{grouping_allowed, group_sum, outside_sum, shortfall_with_reserve, group_shortfall, outside_tier5, group_retention}
+use Rattle.settlement.specs.Claims.{unpaid, set_off, arrears, claim}
+use Rattle.settlement.specs.Sharing.{before, rank, leftover_cent, floor_share, remainder, leftover, share_by_weight}
+use Rattle.settlement.specs.Tiers.{share, left_for, tier_share, met}
 use Rattle.settlement.specs.Rounds.{weight, loss, round, run, spread}
-use Rattle.settlement.specs.Settling.{available, revised, scaledAbove, scaledBelow, deficit, spent, rounds, paid, held}
-use Rattle.settlement.specs.Late.{fill, shortage, latePayment}
+use Rattle.settlement.specs.Settling.{available, revised, scaled_above, scaled_below, deficit, spent, rounds, paid, held}
+use Rattle.settlement.specs.Late.{fill, shortage, late_payment}
 
 pub examples : Examples
-unfolding lines_from stateAfter zeros fresh raised sideTotal holds leaves amounted withNotice withReceipt withSettlement latePays withLateReceipt changed heldIn heldBy drawnFrom withDrawn pursesLeft periodsAfter pursesAfter made find arrearsBefore earlierArrears replaced removed added receivable stored payoutWords acted accepted step sum largest table filled cells ceilDiv energyCents overTiers gives groupingAllowed groupSum outsideSum shortfallWithReserve groupShortfall outsideTier5 groupRetention payable fullClaim unpaid setOff arrears claim before rank leftoverCent floorShare remainder leftover shareByWeight share leftFor tierShare met weight loss round run spread available revised scaledAbove scaledBelow deficit spent rounds paid held fill shortage latePayment
+unfolding lines_from state_after zeros fresh raised side_total holds leaves amounted with_notice with_receipt with_settlement late_pays with_late_receipt changed held_in held_by drawn_from with_drawn purses_left periods_after purses_after made find arrears_before earlier_arrears replaced removed added receivable stored payout_words acted accepted step sum largest table filled cells ceil_div energy_cents over_tiers gives grouping_allowed group_sum outside_sum shortfall_with_reserve group_shortfall outside_tier5 group_retention payable full_claim unpaid set_off arrears claim before rank leftover_cent floor_share remainder leftover share_by_weight share left_for tier_share met weight loss round run spread available revised scaled_above scaled_below deficit spent rounds paid held fill shortage late_payment
 examples = record {
-  month-a = refl;
+  month_a_lem = refl;
   gone_a = refl;
-  month-b = refl;
-  payable-c = refl;
-  payable-reserve = refl;
-  month-c = refl;
-  month-c-alone = refl;
-  month-c-both = refl;
-  month-d = refl;
-  month-e = refl;
-  empty-month = refl;
-  empty-gone = refl;
-  answers-65 = refl;
-  full-side = refl;
-  energy-in-tier-5 = refl;
-  earlier-arrears = refl;
-  earlier-arrears-other = refl;
-  earlier-arrears-late = refl;
-  five-before-three = refl;
-  three-before-eight = refl;
-  six-before-seven = refl;
-  eight-before-twelve = refl;
-  twelve-before-nine = refl;
-  nine-before-eleven = refl;
-  fourteen-before-thirteen = refl;
-  eight-before-twelve-receipt = refl;
-  twelve-before-nine-receipt = refl;
-  nine-before-fourteen = refl;
-  eight-before-fourteen = refl;
+  month_b_lem = refl;
+  payable_c = refl;
+  payable_reserve = refl;
+  month_c_lem = refl;
+  month_c_alone = refl;
+  month_c_both = refl;
+  month_d_lem = refl;
+  month_e_lem = refl;
+  empty_month = refl;
+  empty_gone = refl;
+  answers_65 = refl;
+  full_side = refl;
+  energy_in_tier_5 = refl;
+  earlier_arrears_lem = refl;
+  earlier_arrears_other = refl;
+  earlier_arrears_late = refl;
+  five_before_three = refl;
+  three_before_eight = refl;
+  six_before_seven = refl;
+  eight_before_twelve = refl;
+  twelve_before_nine = refl;
+  nine_before_eleven = refl;
+  fourteen_before_thirteen = refl;
+  eight_before_twelve_receipt = refl;
+  twelve_before_nine_receipt = refl;
+  nine_before_fourteen = refl;
+  eight_before_fourteen = refl;
 }

@@ -36,9 +36,9 @@ module _ {n : ℕ} where
   dropped [] ks = tt
   dropped (s ∷ ss) ks = (stay_dropped s ks.0, dropped ss ks.1)
 
-  dropped-fit : (ss : List (Slot n)) (ks : Kepts ss) (κs : Lfts n) (a : Denots (types_at ss κs)) (ws : Fins κs ss ks a) → fits_of κs ss ks (dropped ss ks) a ws
-  dropped-fit [] ks κs a ws = tt
-  dropped-fit (s ∷ ss) ks κs a ws = (tt, dropped-fit ss ks.1 κs a.1 ws.1)
+  dropped_fit : (ss : List (Slot n)) (ks : Kepts ss) (κs : Lfts n) (a : Denots (types_at ss κs)) (ws : Fins κs ss ks a) → fits_of κs ss ks (dropped ss ks) a ws
+  dropped_fit [] ks κs a ws = tt
+  dropped_fit (s ∷ ss) ks κs a ws = (tt, dropped_fit ss ks.1 κs a.1 ws.1)
 
 module _ {M : Type 1} {𝓤 : Ura M} (𝓛 : Logic 𝓤) {n : ℕ} where
   -- the contract says nothing of a parameter at exit: `refl` for each that is no `&mut`
@@ -46,15 +46,15 @@ module _ {M : Type 1} {𝓤 : Ura M} (𝓛 : Logic 𝓤) {n : ℕ} where
   Silents [] ks = Unit {1}
   Silents (s ∷ ss) ks = Silent 𝓛 n s ks.0 × Silents ss ks.1
 
-  dropped-go : (ss : List (Slot n)) (ks : Kepts ss) → Silents ss ks → AllGo 𝓛 n ss ks (dropped ss ks)
-  dropped-go [] ks qs = tt
-  dropped-go (s ∷ ss) ks qs = (Goes-dropped 𝓛 n s ks.0 qs.0, dropped-go ss ks.1 qs.1)
+  dropped_go : (ss : List (Slot n)) (ks : Kepts ss) → Silents ss ks → AllGo 𝓛 n ss ks (dropped ss ks)
+  dropped_go [] ks qs = tt
+  dropped_go (s ∷ ss) ks qs = (Goes-dropped 𝓛 n s ks.0 qs.0, dropped_go ss ks.1 qs.1)
 
-  dropped-had : (ss : List (Slot n)) (ks : Kepts ss) (κs : Lfts n) (a : Denots (types_at ss κs)) (ws : Fins κs ss ks a) (vss : Valss (types_at ss κs))
+  dropped_had : (ss : List (Slot n)) (ks : Kepts ss) (κs : Lfts n) (a : Denots (types_at ss κs)) (ws : Fins κs ss ks a) (vss : Valss (types_at ss κs))
       → ent 𝓤 (emp 𝓤) (sem 𝓛 (has_of κs ss ks (dropped ss ks) a ws vss))
-  dropped-had [] ks κs a ws vss = id⊢ 𝓤 _
-  dropped-had (s ∷ ss) ks κs a ws vss =
-      qed 𝓛 (‵ ftrue ∷ []) ∵ use1 𝓛 (‵ (has_of κs ss ks.1 (dropped ss ks.1) a.1 ws.1 vss.1)) (dropped-had ss ks.1 κs a.1 ws.1 vss.1) $
+  dropped_had [] ks κs a ws vss = id⊢ 𝓤 _
+  dropped_had (s ∷ ss) ks κs a ws vss =
+      qed 𝓛 (‵ ftrue ∷ []) ∵ use1 𝓛 (‵ (has_of κs ss ks.1 (dropped ss ks.1) a.1 ws.1 vss.1)) (dropped_had ss ks.1 κs a.1 ws.1 vss.1) $
       nothing ! $ fjoin ! $ done !
 
 -- a function's signature and clauses
@@ -89,8 +89,8 @@ module _ {M : Type 1} {𝓤 : Ura M} (𝓛 : Logic 𝓤) (𝓜 : Model 𝓤 𝓛
   pub ends : (y : Start) (v : Val) (r : Result y) (ws : Lasts T y.0.0 y.0.3) → ent 𝓤 (sep 𝓤 (Back 𝓛 S y.0 v r) (Ensured y r ws)) (End y v)
   ends y v r ws =
       qed 𝓛 ((raw (alive 𝓛 S y.0.0 y.0.1) ⊛ ‵ ((type_at S.result y.0.0).own_val r (v ∷ []))) ∷ raw (Ensured y r ws) ∷ []) ∵
-      suffices ! _ (ends_at 𝓛 T stays c y v r ws (dropped-fit S.params T.kept y.0.0 y.0.3 ws)) $ split ! $ nothing ! $
-      use1 𝓛 (‵ (has_of y.0.0 S.params T.kept stays y.0.3 ws y.0.4)) (dropped-had 𝓛 S.params T.kept y.0.0 y.0.3 ws y.0.4) $
+      suffices ! _ (ends_at 𝓛 T stays c y v r ws (dropped_fit S.params T.kept y.0.0 y.0.3 ws)) $ split ! $ nothing ! $
+      use1 𝓛 (‵ (has_of y.0.0 S.params T.kept stays y.0.3 ws y.0.4)) (dropped_had 𝓛 S.params T.kept y.0.0 y.0.3 ws y.0.4) $
       move ! (0 ∷ 2 ∷ []) $ join ! $ move ! (1 ∷ 0 ∷ []) $ join ! $ frame ! $ done !
 
   module _ (𝓡 : Running 𝓤 H 𝓜) (γ : Env) where
@@ -109,7 +109,7 @@ module _ {M : Type 1} {𝓤 : Ura M} (𝓛 : Logic 𝓤) (𝓜 : Model 𝓤 𝓛
         let 𝓣 = tables_of 𝓤 H 𝓜 (tables 𝓤 H 𝓜 𝓡 γ) in
         let run = WpFn 𝓤 H 𝓣.C 𝓣.Λ fn in
         entered 𝓤 H promise 𝓣.C 𝓣.Λ k fn closed
-        (walk_Meets 𝓛 T stays (dropped-go 𝓛 S.params T.kept silent) c run (WpFn-mono 𝓤 H 𝓛.laws 𝓣 fn)
+        (walk_Meets 𝓛 T stays (dropped_go 𝓛 S.params T.kept silent) c run (WpFn-mono 𝓤 H 𝓛.laws 𝓣 fn)
         (walked 𝓛 T stays c run sp tl (λ κs qs bounds a g are. via 𝓤 _ (fst∗ 𝓤 _ ((c κs a).requires g)) (walk κs qs bounds a g are))))
 
     -- a call of the function: it returned r, of which φ holds, as the machine value v
@@ -120,9 +120,9 @@ module _ {M : Type 1} {𝓤 : Ura M} (𝓛 : Logic 𝓤) (𝓜 : Model 𝓤 𝓛
           → ((v : Val) (r : Result y) → φ r → Is (type_at S.result y.0.0) r (v ∷ []) → Seq K 𝓛 (raw (Back 𝓛 S y.0 v r) ∷ Γ) (lands (tables 𝓤 H 𝓜 𝓡 γ).C Λ E d v rest q))
           → Seq K 𝓛 (raw (promise.pre y) ∷ Γ) (runs (tables 𝓤 H 𝓜 𝓡 γ).C Λ E (seq (call f xs d) rest) q)
       unfolding tables_of
-      calls t f' is-f' met y φ told os k =
+      calls t f' is_f' met y φ told os k =
           let R = type_at S.result y.0.0 in
-          calls_at t (fm_of 𝓤 H 𝓛.laws (tables_of 𝓤 H 𝓜 (tables 𝓤 H 𝓜 𝓡 γ))) promise (cited 𝓤 H promise 𝓜 𝓡 γ f f' is-f' met) y os (λ v.
+          calls_at t (fm_of 𝓤 H 𝓛.laws (tables_of 𝓤 H 𝓜 (tables 𝓤 H 𝓜 𝓡 γ))) promise (cited 𝓤 H promise 𝓜 𝓡 γ f f' is_f' met) y os (λ v.
           use1 𝓛 (later (some (λ (r : Result y). (raw (alive 𝓛 S y.0.0 y.0.1) ⊛ ‵ (R.own_val r (v ∷ [])))
           ⊛ some (λ (ws : Lasts T y.0.0 y.0.3). ‵ (lasts T y.0.0 y.0.3 ws) ⊛ raw (Ensured y r ws))))) (id⊢ 𝓤 _) $ await t tt $ pick t (λ r. split t $
           move t (1 ∷ []) $ pick t (λ ws. split t $ drop t $ use1 𝓛 (raw (fact 𝓤 (φ r))) (told r ws) $ heard t (φ r) (λ e. split t $ move t (1 ∷ []) $

@@ -8,8 +8,8 @@ use lib.ListN.{get_or}
 use types.Run.{OneOf, miss}
 use denote.Enum.Declared.{tag_of}
 use Rattle.book.specs.rules.Answers.{number_of}
-use Rattle.book.specs.layouts.Reading.{ReadOutcome, readOutcome}
-use Rattle.book.specs.layouts.Writing.{WriteOutcome, writeOutcome}
+use Rattle.book.specs.layouts.Reading.{ReadOutcome, read_outcome}
+use Rattle.book.specs.layouts.Writing.{WriteOutcome, write_outcome}
 use Rattle.book.specs.declared.answers.Answer.{Answer}
 use Rattle.book.specs.declared.answers.Answer.TheVariants as answer
 use Rattle.book.specs.declared.entries.Entry.TheVariants.{Open}
@@ -19,63 +19,63 @@ use Rattle.book.specs.declared.writer.Writing.{Writing}
 use Rattle.book.specs.declared.writer.Writing.TheVariants as writing
 use Rattle.book.specs.contracts.reader.Reading.{the_type}
 
-abbrev readAgain : ReadOutcome → Reading
-readAgain o =
+abbrev reading_of : ReadOutcome → Reading
+reading_of o =
     cond (eqb o.answer 0) (reading.Found (get_or o.entry 0 (Open 0)) o.place)
     (cond (eqb o.answer 1) reading.Short (cond (eqb o.answer 2) reading.Unknown reading.Outside))
 
-read_again : (place : ℕ) (r : Reading) → readAgain (readOutcome place r) ≡ r
+read_again : (place : ℕ) (r : Reading) → reading_of (read_outcome place r) ≡ r
 read_again place (reading.Found entry next) = refl
 read_again place reading.Short = refl
 read_again place reading.Unknown = refl
 read_again place reading.Outside = refl
 
-pub read-one-to-one : (place : ℕ) (a b : Reading) → readOutcome place a ≡ readOutcome place b → a ≡ b
-read-one-to-one place a b e = sym (read_again place a) ∙ ap readAgain e ∙ read_again place b
+pub read_one_to_one : (place : ℕ) (a b : Reading) → read_outcome place a ≡ read_outcome place b → a ≡ b
+read_one_to_one place a b e = sym (read_again place a) ∙ ap reading_of e ∙ read_again place b
 
 -- an answer in the last arm of a match that has one for an entry that was found
-pub not_found : (place : ℕ) (a : Reading) → OneOf (1 ∷ 2 ∷ 3 ∷ []) (tag_of the_type a) → (readOutcome place a).entry ≡ []
+pub not_found : (place : ℕ) (a : Reading) → OneOf (1 ∷ 2 ∷ 3 ∷ []) (tag_of the_type a) → (read_outcome place a).entry ≡ []
 not_found place (reading.Found entry next) one = absurd (miss (1 ∷ 2 ∷ 3 ∷ []) 0 (tt {0}) one)
 not_found place reading.Short one = refl
 not_found place reading.Unknown one = refl
 not_found place reading.Outside one = refl
 
-abbrev writeAgain : WriteOutcome → Writing
-writeAgain o = cond (eqb o.answer 0) (writing.Wrote o.count) (cond (eqb o.answer 3) writing.Outside writing.NoRoom)
+abbrev writing_of : WriteOutcome → Writing
+writing_of o = cond (eqb o.answer 0) (writing.Wrote o.count) (cond (eqb o.answer 3) writing.Outside writing.NoRoom)
 
-write_again : (r : Writing) → writeAgain (writeOutcome r) ≡ r
+write_again : (r : Writing) → writing_of (write_outcome r) ≡ r
 write_again (writing.Wrote count) = refl
 write_again writing.Outside = refl
 write_again writing.NoRoom = refl
 
-pub write-one-to-one : (a b : Writing) → writeOutcome a ≡ writeOutcome b → a ≡ b
-write-one-to-one a b e = sym (write_again a) ∙ ap writeAgain e ∙ write_again b
+pub write_one_to_one : (a b : Writing) → write_outcome a ≡ write_outcome b → a ≡ b
+write_one_to_one a b e = sym (write_again a) ∙ ap writing_of e ∙ write_again b
 
 -- the book's answers by their numbers; 1 and 2 are the reader's
-abbrev answerList : List Answer
-answerList =
+abbrev answer_list : List Answer
+answer_list =
     answer.Accepted ∷ answer.Accepted ∷ answer.Accepted
     ∷ answer.Outside ∷ answer.NoParticipants ∷ answer.FewWords ∷ answer.NotAbove
     ∷ answer.Full ∷ answer.NotInBook ∷ answer.WrongStage ∷ answer.Unequal
     ∷ answer.PastBound ∷ answer.NotAParticipant ∷ answer.TooMuch ∷ answer.EarlierArrears
     ∷ answer.PursePastBound ∷ answer.Misdated ∷ []
 
-number-again : (a : Answer) → get_or answerList (number_of a) answer.Accepted ≡ a
-number-again answer.Accepted = refl
-number-again answer.Outside = refl
-number-again answer.NoParticipants = refl
-number-again answer.FewWords = refl
-number-again answer.NotAbove = refl
-number-again answer.Full = refl
-number-again answer.NotInBook = refl
-number-again answer.WrongStage = refl
-number-again answer.Unequal = refl
-number-again answer.PastBound = refl
-number-again answer.NotAParticipant = refl
-number-again answer.TooMuch = refl
-number-again answer.EarlierArrears = refl
-number-again answer.PursePastBound = refl
-number-again answer.Misdated = refl
+number_again : (a : Answer) → get_or answer_list (number_of a) answer.Accepted ≡ a
+number_again answer.Accepted = refl
+number_again answer.Outside = refl
+number_again answer.NoParticipants = refl
+number_again answer.FewWords = refl
+number_again answer.NotAbove = refl
+number_again answer.Full = refl
+number_again answer.NotInBook = refl
+number_again answer.WrongStage = refl
+number_again answer.Unequal = refl
+number_again answer.PastBound = refl
+number_again answer.NotAParticipant = refl
+number_again answer.TooMuch = refl
+number_again answer.EarlierArrears = refl
+number_again answer.PursePastBound = refl
+number_again answer.Misdated = refl
 
-pub number-one-to-one : (a b : Answer) → number_of a ≡ number_of b → a ≡ b
-number-one-to-one a b e = sym (number-again a) ∙ ap (λ (k : ℕ). get_or answerList k answer.Accepted) e ∙ number-again b
+pub number_one_to_one : (a b : Answer) → number_of a ≡ number_of b → a ≡ b
+number_one_to_one a b e = sym (number_again a) ∙ ap (λ (k : ℕ). get_or answer_list k answer.Accepted) e ∙ number_again b

@@ -16,10 +16,10 @@ abbrev pub AllFalse : List Bool → Type 0
 AllFalse [] = Unit {0}
 AllFalse (t ∷ l) = (t ≡ false) × AllFalse l
 
-pub none-false : (l : List Bool) → none l ≡ true → AllFalse l
-none-false [] e = tt
-none-false (true ∷ l) e = absurd (false≢true e)
-none-false (false ∷ l) e = (refl, none-false l e)
+pub none_false : (l : List Bool) → none l ≡ true → AllFalse l
+none_false [] e = tt
+none_false (true ∷ l) e = absurd (false≢true e)
+none_false (false ∷ l) e = (refl, none_false l e)
 
 -- the tests of a list of checks, and whether every check has a number
 abbrev pub tests : List Check → List Bool
@@ -31,10 +31,10 @@ numbered [] = true
 numbered (c ∷ l) = cond (eqb c.number 0) false (numbered l)
 
 -- a first check that does not refuse passes, and hands on to those after it
-first-pass : (t : Bool) (k r : ℕ) (rest : Bool) → cond (eqb k 0) false rest ≡ true → cond t k r ≡ 0 → (t ≡ false) × (rest ≡ true) × (r ≡ 0)
-first-pass true k r rest q e = absurd (false≢true (rw (eq-eqb k 0 e) at q))
-first-pass false zero r rest q e = absurd (false≢true q)
-first-pass false (suc k) r rest q e = (refl, rw (eqb-suc-zero k) at q, e)
+first_pass : (t : Bool) (k r : ℕ) (rest : Bool) → cond (eqb k 0) false rest ≡ true → cond t k r ≡ 0 → (t ≡ false) × (rest ≡ true) × (r ≡ 0)
+first_pass true k r rest q e = absurd (false≢true (rw (eq-eqb k 0 e) at q))
+first_pass false zero r rest q e = absurd (false≢true q)
+first_pass false (suc k) r rest q e = (refl, rw (eqb-suc-zero k) at q, e)
 
 pub passes : (t : Bool) (k : ℕ) (l : List Check) → refusal (on t (suc k) ∷ l) ≡ 0 → (t ≡ false) × (refusal l ≡ 0)
 passes true k l e = absurd (omega arith)
@@ -44,7 +44,7 @@ passes false k l e = (refl, e)
 pub all_pass : (l : List Check) → numbered l ≡ true → refusal l ≡ 0 → AllFalse (tests l)
 all_pass [] q e = tt
 all_pass (c ∷ l) q e =
-    let f = first-pass c.fails c.number (refusal l) (numbered l) q e in
+    let f = first_pass c.fails c.number (refusal l) (numbered l) q e in
     (f.0, all_pass l f.1 f.2)
 
 -- no check of a list has that number
@@ -52,19 +52,19 @@ abbrev without : ℕ → List Check → Bool
 without k [] = true
 without k (c ∷ l) = cond (eqb c.number k) false (without k l)
 
-number-differs : (j k : ℕ) (rest : Bool) → cond (eqb j k) false rest ≡ true → (j ≡ k → ⊥) × (rest ≡ true)
-number-differs j k rest = cases_eq (λ t. t ≡ true → (j ≡ k → ⊥) × (rest ≡ true)) j k (λ _ q. absurd (false≢true q)) (λ ne q. (ne, q))
+number_differs : (j k : ℕ) (rest : Bool) → cond (eqb j k) false rest ≡ true → (j ≡ k → ⊥) × (rest ≡ true)
+number_differs j k rest = cases_eq (λ t. t ≡ true → (j ≡ k → ⊥) × (rest ≡ true)) j k (λ _ q. absurd (false≢true q)) (λ ne q. (ne, q))
 
 -- a last check that passes where those before it do is not the one that refuses
-pub last-passes : (k : ℕ) (l : List Check) (t : Bool) → without (suc k) l ≡ true → (AllFalse (tests l) → t ≡ false) → refusal (l ++ (on t (suc k) ∷ [])) ≡ suc k → ⊥
-last-passes k [] t q f e = let z = rw (f tt) at e in omega (arith, z)
-last-passes k (c ∷ l) t q f e =
-    let d = number-differs c.number (suc k) (without (suc k) l) q in
-    cases (λ j. j ≡ suc k → ⊥) c.fails (λ _ r. d.0 r) (λ p r. last-passes k l t d.1 (λ a. f (p, a)) r) e
+pub last_passes : (k : ℕ) (l : List Check) (t : Bool) → without (suc k) l ≡ true → (AllFalse (tests l) → t ≡ false) → refusal (l ++ (on t (suc k) ∷ [])) ≡ suc k → ⊥
+last_passes k [] t q f e = let z = rw (f tt) at e in omega (arith, z)
+last_passes k (c ∷ l) t q f e =
+    let d = number_differs c.number (suc k) (without (suc k) l) q in
+    cases (λ j. j ≡ suc k → ⊥) c.fails (λ _ r. d.0 r) (λ p r. last_passes k l t d.1 (λ a. f (p, a)) r) e
 
 -- a last test of a limit
-pub within-last : (limit v : ℕ) → leb v limit ≡ none (ltb limit v ∷ [])
-within-last limit v = go (ltb limit v) refl
+pub within_last : (limit v : ℕ) → leb v limit ≡ none (ltb limit v ∷ [])
+within_last limit v = go (ltb limit v) refl
   where
     go : (t : Bool) → ltb limit v ≡ t → leb v limit ≡ cond t false true
     go true e = lt-leb v limit (ltb-true limit v e)
@@ -75,9 +75,9 @@ abbrev pub AllAbove : ℕ → List Check → Type 0
 AllAbove k [] = Unit {0}
 AllAbove k (c ∷ l) = (k < c.number) × AllAbove k l
 
-pub refuses-above : (k : ℕ) (l : List Check) → AllAbove k l → (refusal l ≡ 0) ⊎ (k < refusal l)
-refuses-above k [] h = inl refl
-refuses-above k (c ∷ l) h = go c.fails (refuses-above k l h.1)
+pub refuses_above : (k : ℕ) (l : List Check) → AllAbove k l → (refusal l ≡ 0) ⊎ (k < refusal l)
+refuses_above k [] h = inl refl
+refuses_above k (c ∷ l) h = go c.fails (refuses_above k l h.1)
   where
     go : (t : Bool) → (refusal l ≡ 0) ⊎ (k < refusal l) → (cond t c.number (refusal l) ≡ 0) ⊎ (k < cond t c.number (refusal l))
     go true rest = inr h.0

@@ -7,7 +7,7 @@ use borrow.Author.Tests.{le-leb, leb-true, ne_eqb}
 use lib.ListN.{length}
 use Rattle.exact.specs.Rows.{places}
 use Rattle.exact.proofs.Cases.{cases_eq}
-use Rattle.book.specs.rules.Limits.{periodPlaces, within}
+use Rattle.book.specs.rules.Limits.{period_places, within}
 use Rattle.book.specs.rules.State.{State}
 use Rattle.book.specs.rules.Valid.{SoundState}
 
@@ -18,12 +18,12 @@ within_both most x =
     (λ _ e. absurd (false≢true e))
     (λ ne e. (omega (arith, ne), leb-true x most e))
 
-pub both-within : (most x : ℕ) → 1 ≤ x → x ≤ most → within most x ≡ true
-both-within most x some few = rw (ne_eqb x 0 (λ e. omega arith), le-leb x most few)
+pub both_within : (most x : ℕ) → 1 ≤ x → x ≤ most → within most x ≡ true
+both_within most x some few = rw (ne_eqb x 0 (λ e. omega arith), le-leb x most few)
 
 module _ {s : State} (f : SoundState s) where
-  pub many-places : s.n ≤ places
-  many-places = omega (arith, f.many, f.limited.participants)
+  pub many_places : s.n ≤ places
+  many_places = omega (arith, f.many, f.limited.participants)
 
-  pub few-places : length s.periods ≤ periodPlaces
-  few-places = omega (arith, f.few, f.limited.periods)
+  pub few_places : length s.periods ≤ period_places
+  few_places = omega (arith, f.few, f.limited.periods)

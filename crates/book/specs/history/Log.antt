@@ -3,10 +3,10 @@ use Rattle.std.specs.Prelude.{ℕ, suc, ◌+◌, ◌-◌, min, Bool, true, false
 use Rattle.exact.specs.Rows.{at, sum}
 use Rattle.settlement.specs.Month.{Month}
 use Rattle.settlement.specs.Notice as notice
-use Rattle.settlement.specs.Groups.{groupRetention}
+use Rattle.settlement.specs.Groups.{group_retention}
 use Rattle.settlement.specs.Claims as step1
 use Rattle.settlement.specs.declared.groups.Grouping.{Grouping}
-use Rattle.book.specs.rules.Kinds.{periodOf, names, isOpen, isAmount, isReceipt, isSettle, isPurse, addition, payerOf, receiptCents, purseOf, purseCents, centsIn}
+use Rattle.book.specs.rules.Kinds.{period_of, names, is_open, is_amount, is_receipt, is_settle, is_purse, addition, payer_of, receipt_cents, purse_of, purse_cents, cents_in}
 use Rattle.book.specs.declared.entries.Entry.{Entry}
 
 -- an accepted entry, and the payout words as it left them
@@ -23,20 +23,20 @@ abbrev pub only : ℕ → ℕ → ℕ → ℕ
 only j i c = cond (eqb j i) c 0
 
 -- what an entry adds to B_i
-abbrev pub addsBy : ℕ → Entry → ℕ
-addsBy i e = cond (isAmount e) (cond (eqb (addition e).side 0) (only (addition e).participant i (addition e).cents) 0) 0
+abbrev pub adds_by : ℕ → Entry → ℕ
+adds_by i e = cond (is_amount e) (cond (eqb (addition e).side 0) (only (addition e).participant i (addition e).cents) 0) 0
 
 -- what an entry adds to O_i,t, tiers counted from 0
-abbrev pub addsTo : ℕ → ℕ → Entry → ℕ
-addsTo t i e = cond (isAmount e) (cond (eqb (addition e).side 0) 0 (only (addition e).tier (suc t) (only (addition e).participant i (addition e).cents))) 0
+abbrev pub adds_to : ℕ → ℕ → Entry → ℕ
+adds_to t i e = cond (is_amount e) (cond (eqb (addition e).side 0) 0 (only (addition e).tier (suc t) (only (addition e).participant i (addition e).cents))) 0
 
 -- the cents of a receipt from i
-abbrev pub receivedFrom : ℕ → Entry → ℕ
-receivedFrom i e = cond (isReceipt e) (only (payerOf e) i (receiptCents e)) 0
+abbrev pub received_from : ℕ → Entry → ℕ
+received_from i e = cond (is_receipt e) (only (payer_of e) i (receipt_cents e)) 0
 
 -- the cents that an entry adds to the purse of i
-abbrev pub addsToPurse : ℕ → Entry → ℕ
-addsToPurse i e = cond (isPurse e) (only (purseOf e) i (purseCents e)) 0
+abbrev pub adds_to_purse : ℕ → Entry → ℕ
+adds_to_purse i e = cond (is_purse e) (only (purse_of e) i (purse_cents e)) 0
 
 abbrev pub count : Bool → ℕ
 count true = 1
@@ -59,18 +59,18 @@ nothing = record { by = λ i. 0; to = λ t i. 0; before = λ i. 0; late = λ i. 
 -- one more entry of the period
 unfoldable pub entered : Accepted → Account → Account
 entered x a = record {
-  by = λ i. addsBy i x.entry + a.by i;
-  to = λ t i. addsTo t i x.entry + a.to t i;
-  before = λ i. cond (eqb a.settlements 0) (receivedFrom i x.entry) 0 + a.before i;
-  late = λ i. cond (eqb a.settlements 0) 0 (receivedFrom i x.entry) + a.late i;
+  by = λ i. adds_by i x.entry + a.by i;
+  to = λ t i. adds_to t i x.entry + a.to t i;
+  before = λ i. cond (eqb a.settlements 0) (received_from i x.entry) 0 + a.before i;
+  late = λ i. cond (eqb a.settlements 0) 0 (received_from i x.entry) + a.late i;
   paid = λ i. at x.words i + a.paid i;
-  openings = count (isOpen x.entry) + a.openings;
-  settlements = count (isSettle x.entry) + a.settlements;
+  openings = count (is_open x.entry) + a.openings;
+  settlements = count (is_settle x.entry) + a.settlements;
 }
 
 -- cents drawn from purses, moved into the period: they count among the receipts before its settle entry (02, c)
-unfoldable pub movedIn : (ℕ → ℕ) → Account → Account
-movedIn drawn a = record {
+unfoldable pub moved_in : (ℕ → ℕ) → Account → Account
+moved_in drawn a = record {
   by = a.by;
   to = a.to;
   before = λ i. drawn i + a.before i;
@@ -81,62 +81,62 @@ movedIn drawn a = record {
 }
 
 -- money received is the cents of all receipts and purse entries
-unfoldable pub moneyReceived : Log → ℕ
-moneyReceived [] = 0
-moneyReceived (x ∷ log) = centsIn x.entry + moneyReceived log
+unfoldable pub money_received : Log → ℕ
+money_received [] = 0
+money_received (x ∷ log) = cents_in x.entry + money_received log
 
 -- money paid is the sum of the first n payout words over all entries
-unfoldable pub moneyPaid : ℕ → Log → ℕ
-moneyPaid n [] = 0
-moneyPaid n (x ∷ log) = sum (at x.words) n + moneyPaid n log
+unfoldable pub money_paid : ℕ → Log → ℕ
+money_paid n [] = 0
+money_paid n (x ∷ log) = sum (at x.words) n + money_paid n log
 
 -- a period of n participants, by its account
 module _ (n : ℕ) (a : Account) where
   -- its month: B, O and with them G
-  abbrev pub monthIn : Month
-  monthIn = record { n = n; by = a.by; to = a.to }
+  abbrev pub month_in : Month
+  month_in = record { n = n; by = a.by; to = a.to }
 
   -- all receipts of i
   abbrev pub received : ℕ → ℕ
   received i = a.before i + a.late i
 
   -- held money: its receipts less all that was paid in it
-  abbrev pub heldMoney : ℕ
-  heldMoney = sum received n - sum a.paid n
+  abbrev pub held_money : ℕ
+  held_money = sum received n - sum a.paid n
 
 -- A: the retention of the period, by the groups and reserves that the book was made with (02, a)
 abbrev pub retention : ℕ → Grouping → Account → ℕ → ℕ
-retention n grouping a = groupRetention (monthIn n a) grouping
+retention n grouping a = group_retention (month_in n a) grouping
 
 -- what follows from retention, however it was reckoned: `retained a i` is A_i of the period with account a
 module _ (n : ℕ) (retained : Account → ℕ → ℕ) (a : Account) where
   -- P and F
   abbrev pub payable : ℕ → ℕ
-  payable = notice.payable (monthIn n a) (retained a)
+  payable = notice.payable (month_in n a) (retained a)
 
-  abbrev pub fullClaim : ℕ → ℕ
-  fullClaim = notice.fullClaim (monthIn n a) (retained a)
+  abbrev pub full_claim : ℕ → ℕ
+  full_claim = notice.full_claim (month_in n a) (retained a)
 
   -- unpaid cents, set-off, claims C and the arrears of step 1, with the receipts before the settle entry as received
   abbrev pub unpaid : ℕ → ℕ
-  unpaid = step1.unpaid (monthIn n a) (retained a) a.before
+  unpaid = step1.unpaid (month_in n a) (retained a) a.before
 
-  abbrev pub setOff : ℕ → ℕ
-  setOff = step1.setOff (monthIn n a) (retained a) a.before
+  abbrev pub set_off : ℕ → ℕ
+  set_off = step1.set_off (month_in n a) (retained a) a.before
 
   abbrev pub claim : ℕ → ℕ
-  claim = step1.claim (monthIn n a) (retained a) a.before
+  claim = step1.claim (month_in n a) (retained a) a.before
 
-  abbrev pub arrearsAtSettlement : ℕ → ℕ
-  arrearsAtSettlement = step1.arrears (monthIn n a) (retained a) a.before
+  abbrev pub arrears_at_settlement : ℕ → ℕ
+  arrears_at_settlement = step1.arrears (month_in n a) (retained a) a.before
 
   -- arrears now: those of step 1, each less that payer's later receipts
   abbrev pub arrears : ℕ → ℕ
-  arrears i = arrearsAtSettlement i - a.late i
+  arrears i = arrears_at_settlement i - a.late i
 
   -- unpaid claims: C_i less what i was paid, over all i
-  abbrev pub unpaidClaims : ℕ
-  unpaidClaims = sum (λ i. claim i - a.paid i) n
+  abbrev pub unpaid_claims : ℕ
+  unpaid_claims = sum (λ i. claim i - a.paid i) n
 
 -- what all entries so far come to: the account of every period, and the purse of every participant (02, c)
 pub record Ledger : Type 0 where
@@ -144,34 +144,34 @@ pub record Ledger : Type 0 where
   pub purse : ℕ → ℕ
 
 -- one more entry: in the account of the period that it names, or in the purse that it adds to
-unfoldable pub withEntry : Accepted → Ledger → Ledger
-withEntry x l = record {
+unfoldable pub with_entry : Accepted → Ledger → Ledger
+with_entry x l = record {
   account = λ k. cond (names k x.entry) (entered x (l.account k)) (l.account k);
-  purse = λ i. addsToPurse i x.entry + l.purse i;
+  purse = λ i. adds_to_purse i x.entry + l.purse i;
 }
 
 -- the entries of a list, one after the other
 module _ (n : ℕ) (retained : Account → ℕ → ℕ) where
   -- the arrears of i in period k, once that is settled; 0 before
-  unfoldable pub arrearsIn : Ledger → ℕ → ℕ → ℕ
-  arrearsIn l i k = cond (eqb (l.account k).settlements 0) 0 (arrears n retained (l.account k) i)
+  unfoldable pub arrears_in : Ledger → ℕ → ℕ → ℕ
+  arrears_in l i k = cond (eqb (l.account k).settlements 0) 0 (arrears n retained (l.account k) i)
 
   -- what is drawn from the purse of i when period k settles: the smaller of purse and unpaid, where i has no arrears in a
   -- settled period of a lower number, as in refusal 14 (02, c)
   unfoldable pub draws : Ledger → ℕ → ℕ → ℕ
-  draws l k i = cond (eqb (sum (arrearsIn l i) k) 0) (min (l.purse i) (unpaid n retained (l.account k) i)) 0
+  draws l k i = cond (eqb (sum (arrears_in l i) k) 0) (min (l.purse i) (unpaid n retained (l.account k) i)) 0
 
   -- moved from the purses into the period
-  unfoldable pub withDraws : ℕ → Ledger → Ledger
-  withDraws k l = record {
-    account = λ j. cond (eqb j k) (movedIn (draws l k) (l.account j)) (l.account j);
+  unfoldable pub with_draws : ℕ → Ledger → Ledger
+  with_draws k l = record {
+    account = λ j. cond (eqb j k) (moved_in (draws l k) (l.account j)) (l.account j);
     purse = λ i. l.purse i - draws l k i;
   }
 
   -- a settle entry draws on the purses before it is entered
   unfoldable pub ledger : Log → Ledger
   ledger [] = record { account = λ k. nothing; purse = λ i. 0 }
-  ledger (x ∷ log) = withEntry x (cond (isSettle x.entry) (withDraws (periodOf x.entry) (ledger log)) (ledger log))
+  ledger (x ∷ log) = with_entry x (cond (is_settle x.entry) (with_draws (period_of x.entry) (ledger log)) (ledger log))
 
   -- the account of period k, and the purse of i
   abbrev pub account : ℕ → Log → Account

@@ -1,18 +1,18 @@
 -- The kinds of entry, their fields and their layouts (01, Entries; 02, c and e).
 use Rattle.std.specs.Prelude.{ℕ, ◌+◌, Bool, true, cond, List, [], ◌∷◌, eqb, leb, get_or, length}
-use Rattle.book.specs.layouts.Fields.{fieldBytes}
+use Rattle.book.specs.layouts.Fields.{field_bytes}
 use Rattle.book.specs.declared.entries.Entry.{Entry}
 use Rattle.book.specs.declared.entries.Entry.TheVariants.{Open, Energy, Amount, Notice, Receipt, Settle, Purse, Washup}
 
 -- the lengths of the bodies, by kind; there is no kind 0
-abbrev pub bodyLengths : List ℕ
-bodyLengths = 0 ∷ 4 ∷ 14 ∷ 15 ∷ 4 ∷ 13 ∷ 4 ∷ 9 ∷ 22 ∷ []
+abbrev pub body_lengths : List ℕ
+body_lengths = 0 ∷ 4 ∷ 14 ∷ 15 ∷ 4 ∷ 13 ∷ 4 ∷ 9 ∷ 22 ∷ []
 
-abbrev pub bodyLength : ℕ → ℕ
-bodyLength kind = get_or bodyLengths kind 0
+abbrev pub body_length : ℕ → ℕ
+body_length kind = get_or body_lengths kind 0
 
 abbrev pub unknown : ℕ → Bool
-unknown kind = cond (eqb kind 0) true (leb (length bodyLengths) kind)
+unknown kind = cond (eqb kind 0) true (leb (length body_lengths) kind)
 
 -- the widths of the fields of a body, by kind
 abbrev pub layouts : List (List ℕ)
@@ -70,8 +70,8 @@ entry_of kind f =
 
 -- an entry is one byte of kind, then its body
 unfoldable pub bytes_of : Entry → List ℕ
-bytes_of e = kind_of e ∷ fieldBytes (layout (kind_of e)) (fields_of e)
+bytes_of e = kind_of e ∷ field_bytes (layout (kind_of e)) (fields_of e)
 
 -- how many bytes that is
 abbrev pub size : Entry → ℕ
-size e = bodyLength (kind_of e) + 1
+size e = body_length (kind_of e) + 1

@@ -17,10 +17,10 @@ fields_at [] s place = []
 fields_at (w ∷ ws) s place = value_at w s place ∷ fields_at ws s (place + w)
 
 -- and their bytes
-unfoldable pub fieldBytes : List ℕ → List ℕ → List ℕ
-fieldBytes [] vs = []
-fieldBytes (w ∷ ws) [] = []
-fieldBytes (w ∷ ws) (v ∷ vs) = bytes w v ++ fieldBytes ws vs
+unfoldable pub field_bytes : List ℕ → List ℕ → List ℕ
+field_bytes [] vs = []
+field_bytes (w ∷ ws) [] = []
+field_bytes (w ∷ ws) (v ∷ vs) = bytes w v ++ field_bytes ws vs
 
 -- values that fit their widths, one each
 abbrev pub Fit : List ℕ → List ℕ → Type 0

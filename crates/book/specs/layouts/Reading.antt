@@ -2,7 +2,7 @@
 use Rattle.std.specs.Prelude.{ℕ, ◌+◌, cond, not, List, [], ◌∷◌, eqb, ltb, leb, get_or, length}
 use Rattle.book.specs.Checks.{Check, on, refusal}
 use Rattle.book.specs.layouts.Fields.{fields_at}
-use Rattle.book.specs.layouts.Entries.{bodyLength, unknown, layout, entry_of}
+use Rattle.book.specs.layouts.Entries.{body_length, unknown, layout, entry_of}
 use Rattle.book.specs.layouts.Allowed.{allowed}
 use Rattle.book.specs.declared.entries.Entry.{Entry}
 use Rattle.book.specs.declared.reader.Reading.{Reading}
@@ -19,33 +19,33 @@ module _ (s : List ℕ) (place : ℕ) where
   abbrev pub kind_at : ℕ
   kind_at = get_or s place 0
 
-  abbrev pub nextPlace : ℕ
-  nextPlace = place + 1 + bodyLength kind_at
+  abbrev pub next_place : ℕ
+  next_place = place + 1 + body_length kind_at
 
   unfoldable pub entry_at : Entry
   entry_at = entry_of kind_at (fields_at (layout kind_at) s (place + 1))
 
   -- 1 for no byte, 2 for an unknown kind, 1 for fewer bytes than the body needs, 3 for a field outside its values
-  abbrev pub readChecks : List Check
-  readChecks =
+  abbrev pub read_checks : List Check
+  read_checks =
       on (leb (length s) place) 1
       ∷ on (unknown kind_at) 2
-      ∷ on (ltb (length s) nextPlace) 1
+      ∷ on (ltb (length s) next_place) 1
       ∷ on (not (allowed entry_at)) 3
       ∷ []
 
   unfoldable pub reading : ReadOutcome
   reading =
-      cond (eqb (refusal readChecks) 0)
-      (record { answer = 0; place = nextPlace; entry = entry_at ∷ [] })
-      (record { answer = refusal readChecks; place = place; entry = [] })
+      cond (eqb (refusal read_checks) 0)
+      (record { answer = 0; place = next_place; entry = entry_at ∷ [] })
+      (record { answer = refusal read_checks; place = place; entry = [] })
 
 -- 01's number and values for each answer of the reader at a place: a refusal leaves the place
-abbrev pub readOutcome : ℕ → Reading → ReadOutcome
-readOutcome place (Found entry next) = record { answer = 0; place = next; entry = entry ∷ [] }
-readOutcome place Short = record { answer = 1; place = place; entry = [] }
-readOutcome place Unknown = record { answer = 2; place = place; entry = [] }
-readOutcome place Outside = record { answer = 3; place = place; entry = [] }
+abbrev pub read_outcome : ℕ → Reading → ReadOutcome
+read_outcome place (Found entry next) = record { answer = 0; place = next; entry = entry ∷ [] }
+read_outcome place Short = record { answer = 1; place = place; entry = [] }
+read_outcome place Unknown = record { answer = 2; place = place; entry = [] }
+read_outcome place Outside = record { answer = 3; place = place; entry = [] }
 
 -- what is done with the entry that was read, or where none was
 abbrev pub on_entry : {A : Type 0} → List Entry → (Entry → A) → A → A

@@ -13,21 +13,21 @@ pub record WriteOutcome : Type 0 where
   pub count : ℕ
 
 -- 3 for a field outside its values, 5 for fewer bytes than the entry needs
-abbrev pub writeChecks : Entry → ℕ → List Check
-writeChecks e room = on (not (allowed e)) 3 ∷ on (ltb room (size e)) 5 ∷ []
+abbrev pub write_checks : Entry → ℕ → List Check
+write_checks e room = on (not (allowed e)) 3 ∷ on (ltb room (size e)) 5 ∷ []
 
 unfoldable pub writing : Entry → ℕ → WriteOutcome
 writing e room =
-    cond (eqb (refusal (writeChecks e room)) 0)
+    cond (eqb (refusal (write_checks e room)) 0)
     (record { answer = 0; count = size e })
-    (record { answer = refusal (writeChecks e room); count = 0 })
+    (record { answer = refusal (write_checks e room); count = 0 })
 
 -- the lent bytes afterwards: the entry's from the first on, and no other changed
 unfoldable pub written : Entry → List ℕ → List ℕ
-written e out = cond (eqb (refusal (writeChecks e (length out))) 0) (bytes_of e ++ drop (size e) out) out
+written e out = cond (eqb (refusal (write_checks e (length out))) 0) (bytes_of e ++ drop (size e) out) out
 
 -- 01's number and values for each answer of the writer
-abbrev pub writeOutcome : Writing → WriteOutcome
-writeOutcome (Wrote count) = record { answer = 0; count = count }
-writeOutcome Outside = record { answer = 3; count = 0 }
-writeOutcome NoRoom = record { answer = 5; count = 0 }
+abbrev pub write_outcome : Writing → WriteOutcome
+write_outcome (Wrote count) = record { answer = 0; count = count }
+write_outcome Outside = record { answer = 3; count = 0 }
+write_outcome NoRoom = record { answer = 5; count = 0 }

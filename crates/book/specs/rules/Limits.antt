@@ -4,13 +4,13 @@ use Rattle.exact.specs.Rows.{places}
 use Rattle.book.specs.declared.limits.Limits.{Limits}
 
 -- the places that a book has for periods
-abbrev pub periodPlaces : ℕ
-periodPlaces = 12
+abbrev pub period_places : ℕ
+period_places = 12
 
 -- the market's limits, the highest that a book can have: as many participants and periods as there are places (01, The
 -- month's sums)
 abbrev pub market : Limits
-market = record { participants = places; periods = periodPlaces }
+market = record { participants = places; periods = period_places }
 
 -- those of a demonstration book
 abbrev pub demonstration : Limits

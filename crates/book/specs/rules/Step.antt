@@ -2,10 +2,10 @@
 use Rattle.std.specs.Prelude.{ℕ, cond, List, [], ◌∷◌, eqb}
 use Rattle.exact.specs.Rows.{places, at, sum, filled}
 use Rattle.book.specs.Checks.{refusal}
-use Rattle.book.specs.rules.Kinds.{periodOf, isOpen, isPurse, purseOf, purseCents}
+use Rattle.book.specs.rules.Kinds.{period_of, is_open, is_purse, purse_of, purse_cents}
 use Rattle.book.specs.rules.Periods.{fresh, Change, changed, leaves, zeros, raised}
-use Rattle.book.specs.rules.State.{State, view, pack, find, periodAt, replaced, removed, added, withPurses}
-use Rattle.book.specs.rules.Purses.{afterDrawing}
+use Rattle.book.specs.rules.State.{State, view, pack, find, period_at, replaced, removed, added, with_purses}
+use Rattle.book.specs.rules.Purses.{after_drawing}
 use Rattle.book.specs.rules.Refusals.{Input, checks}
 use Rattle.book.specs.declared.Period.{Period}
 use Rattle.book.specs.declared.Book.{Book}
@@ -21,20 +21,20 @@ unfoldable pub stored : State → ℕ → Period → State
 stored s j p = cond (leaves s.n p) (removed s j) (replaced s j p)
 
 -- acceptance sets the first n payout words, 0 where nothing is paid, and no others
-unfoldable pub payoutWords : ℕ → List ℕ → List ℕ → List ℕ
-payoutWords n pays words = filled (at pays) n words
+unfoldable pub payout_words : ℕ → List ℕ → List ℕ → List ℕ
+payout_words n pays words = filled (at pays) n words
 
 -- an open entry: one more period, and nothing paid
 abbrev pub opened : State → ℕ → List ℕ → Outcome
-opened s k words = record { answer = 0; rounds = 0; state = added s (fresh k); words = payoutWords s.n (zeros places) words }
+opened s k words = record { answer = 0; rounds = 0; state = added s (fresh k); words = payout_words s.n (zeros places) words }
 
 -- a purse entry: its cents are added to the purse of i, and nothing is paid (02, c)
-abbrev pub purseRaised : State → ℕ → ℕ → List ℕ → Outcome
-purseRaised s i cents words = record {
+abbrev pub purse_raised : State → ℕ → ℕ → List ℕ → Outcome
+purse_raised s i cents words = record {
   answer = 0;
   rounds = 0;
-  state = withPurses s (raised s.purses i cents);
-  words = payoutWords s.n (zeros places) words;
+  state = with_purses s (raised s.purses i cents);
+  words = payout_words s.n (zeros places) words;
 }
 
 -- an entry that changes the period at place j
@@ -43,19 +43,19 @@ moved s j c words = record {
   answer = 0;
   rounds = c.rounds;
   state = stored s j c.period;
-  words = payoutWords s.n c.pays words;
+  words = payout_words s.n c.pays words;
 }
 
 -- an entry that names a period in the book, and what it makes of that period
 unfoldable pub acted : State → Input → Outcome
-acted s x = moved s (find (periodOf x.entry) s.periods) (changed s.n s.grouping x.entry (periodAt (periodOf x.entry) s.periods)) x.words
+acted s x = moved s (find (period_of x.entry) s.periods) (changed s.n s.grouping x.entry (period_at (period_of x.entry) s.periods)) x.words
 
 -- an entry that names a period finds the book with what it draws from the purses moved into that period
 unfoldable pub accepted : State → Input → Outcome
 accepted s x =
-    cond (isOpen x.entry) (opened s (periodOf x.entry) x.words)
-    (cond (isPurse x.entry) (purseRaised s (purseOf x.entry) (purseCents x.entry) x.words)
-    (acted (afterDrawing s x.entry) x))
+    cond (is_open x.entry) (opened s (period_of x.entry) x.words)
+    (cond (is_purse x.entry) (purse_raised s (purse_of x.entry) (purse_cents x.entry) x.words)
+    (acted (after_drawing s x.entry) x))
 
 -- a refusal changes nothing
 abbrev pub refused : State → Input → ℕ → Outcome
@@ -85,5 +85,5 @@ replies b [] = []
 replies b (x ∷ inputs) = reply b x ∷ replies (reply b x).book inputs
 
 -- the cents that an entry paid n participants; a refused one pays nothing
-unfoldable pub paidBy : ℕ → Reply → ℕ
-paidBy n r = cond (eqb r.answer 0) (sum (at r.words) n) 0
+unfoldable pub paid_by : ℕ → Reply → ℕ
+paid_by n r = cond (eqb r.answer 0) (sum (at r.words) n) 0

@@ -1,15 +1,15 @@
 -- What is true of every book that the program hands back, and what its functions require of a book.
 use Rattle.std.specs.Prelude.{ℕ, ◌+◌, ◌-◌, ◌*◌, ◌≤◌, ◌<◌, ◌≡◌, true, false, List, [], ◌∷◌, length}
 use Rattle.exact.specs.Rows.{places, at, sum}
-use Rattle.settlement.specs.Month.{Bounded, tiers, owingTo}
+use Rattle.settlement.specs.Month.{Bounded, tiers, owing_to}
 use Rattle.settlement.specs.Notice.{Due}
-use Rattle.settlement.specs.Groups.{groupingAllowed, noticed}
+use Rattle.settlement.specs.Groups.{grouping_allowed, noticed}
 use Rattle.settlement.specs.declared.groups.Grouping.{Grouping}
-use Rattle.book.specs.rules.Kinds.{isSettle}
-use Rattle.book.specs.rules.Periods.{monthOf, sideTotal, leaves}
+use Rattle.book.specs.rules.Kinds.{is_settle}
+use Rattle.book.specs.rules.Periods.{month_of, side_total, leaves}
 use Rattle.book.specs.rules.Limits.{market, UpTo}
 use Rattle.book.specs.rules.State.{State, view, pack}
-use Rattle.book.specs.rules.Purses.{purseLimit}
+use Rattle.book.specs.rules.Purses.{purse_limit}
 use Rattle.book.specs.rules.Makings.{made}
 use Rattle.book.specs.rules.Refusals.{Input}
 use Rattle.book.specs.rules.Step.{reply}
@@ -27,24 +27,24 @@ All P (x ∷ l) = P x × All P l
 module _ (n : ℕ) (p : Period) where
   -- before notice nothing was received or paid
   pub record BeforeNotice : Type 0 where
-    pub nothing-received : (i : ℕ) → i < n → at p.received i ≡ 0
-    pub nothing-paid : (i : ℕ) → i < n → at p.paid i ≡ 0
+    pub nothing_received : (i : ℕ) → i < n → at p.received i ≡ 0
+    pub nothing_paid_lem : (i : ℕ) → i < n → at p.paid i ≡ 0
 
   -- from notice to settlement the sides are equal, what is payable comes from a retention of at most the tier 5 part, and
   -- received is at most payable
   pub record BeforeSettlement : Type 0 where
-    pub equal : sum (monthOf n p).by n ≡ sum (owingTo (monthOf n p)) n
-    pub due : Due (monthOf n p) p.payable
+    pub equal : sum (month_of n p).by n ≡ sum (owing_to (month_of n p)) n
+    pub due : Due (month_of n p) p.payable
     pub within : (i : ℕ) → i < n → at p.received i ≤ at p.payable i
-    pub nothing-paid : (i : ℕ) → i < n → at p.paid i ≡ 0
+    pub nothing_paid_lem : (i : ℕ) → i < n → at p.paid i ≡ 0
 
   -- after settlement claims come to what was received and what is in arrears, and held money is within its bound
   pub record AfterSettlement : Type 0 where
-    pub claim-le : (i : ℕ) → i < n → at p.claim i ≤ owingTo (monthOf n p) i
-    pub paid-le : (i : ℕ) → i < n → at p.paid i ≤ at p.claim i
+    pub claim_le : (i : ℕ) → i < n → at p.claim i ≤ owing_to (month_of n p) i
+    pub paid_le : (i : ℕ) → i < n → at p.paid i ≤ at p.claim i
     pub balance : sum (at p.claim) n ≡ sum (at p.received) n + sum (at p.arrears) n
-    pub paid-within : sum (at p.paid) n ≤ sum (at p.received) n
-    pub held-bound : sum (at p.received) n ≤ sum (at p.paid) n + (n - 1)
+    pub paid_within : sum (at p.paid) n ≤ sum (at p.received) n
+    pub held_bound : sum (at p.received) n ≤ sum (at p.paid) n + (n - 1)
 
   abbrev pub AtStage : Stage → Type 0
   AtStage Opened = BeforeNotice
@@ -53,13 +53,13 @@ module _ (n : ℕ) (p : Period) where
 
   -- the sizes of its rows, each side's total kept and within its bound, and what is true of its stage
   pub record Sound : Type 0 where
-    pub totals-size : length p.totals ≡ 2
+    pub totals_size : length p.totals ≡ 2
     pub by_size : length p.by ≡ places
-    pub to-size : length p.to ≡ tiers * places
-    pub received-size : length p.received ≡ places
-    pub arrears-size : length p.arrears ≡ places
-    pub kept : (side : ℕ) → side < 2 → at p.totals side ≡ sideTotal n p side
-    pub bounded : Bounded (monthOf n p)
+    pub to_size : length p.to ≡ tiers * places
+    pub received_size : length p.received ≡ places
+    pub arrears_size : length p.arrears ≡ places
+    pub kept : (side : ℕ) → side < 2 → at p.totals side ≡ side_total n p side
+    pub bounded : Bounded (month_of n p)
     pub at_stage : AtStage p.stage
 
 -- a period in the book is sound and does not leave; from notice to settlement what is payable is what a notice reckons by the
@@ -67,17 +67,17 @@ module _ (n : ℕ) (p : Period) where
 pub record InBook (n : ℕ) (grouping : Grouping) (p : Period) : Type 0 where
   pub sound : Sound n p
   pub stays : leaves n p ≡ false
-  pub row : p.stage ≡ Noticed → p.payable ≡ (noticed (monthOf n p) grouping).payable
+  pub row : p.stage ≡ Noticed → p.payable ≡ (noticed (month_of n p) grouping).payable
 
 -- n and the periods in the book are within the book's limits, whatever these are, up to the market's (02, f)
 pub record SoundState (s : State) : Type 0 where
   pub limited : UpTo market s.limits
   pub many : s.n ≤ s.limits.participants
   pub few : length s.periods ≤ s.limits.periods
-  pub grouped : groupingAllowed s.n s.grouping ≡ true
+  pub grouped : grouping_allowed s.n s.grouping ≡ true
   pub each : All (InBook s.n s.grouping) s.periods
-  pub purses-size : length s.purses ≡ places
-  pub purse-le : (i : ℕ) → i < s.n → at s.purses i ≤ purseLimit
+  pub purses_size : length s.purses ≡ places
+  pub purse_le : (i : ℕ) → i < s.n → at s.purses i ≤ purse_limit
 
 -- the record is that of its state, and that is fit
 pub record Valid (b : Book) : Type 0 where
@@ -96,4 +96,4 @@ RefusalChangesNothing = (b : Book) (x : Input) → Valid b → ((reply b x).answ
 -- rounds are 0 in every answer but an accepted settlement's
 pub record RoundsOfSettlements : Type 0 where
   pub refused : (b : Book) (x : Input) → ((reply b x).answer ≡ 0 → ⊥) → (reply b x).rounds ≡ 0
-  pub others : (b : Book) (x : Input) → isSettle x.entry ≡ false → (reply b x).rounds ≡ 0
+  pub others : (b : Book) (x : Input) → is_settle x.entry ≡ false → (reply b x).rounds ≡ 0

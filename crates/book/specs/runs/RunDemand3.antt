@@ -2,7 +2,7 @@
 use Rattle.std.specs.Prelude.{ℕ, ◌⊎◌, List, [], ◌∷◌}
 use Rattle.std.proofs.Common.{inl, inr}
 use Rattle.book.specs.rules.Refusals.{Input}
-use Rattle.book.specs.runs.Running.{Run, run, inputsOf}
+use Rattle.book.specs.runs.Running.{Run, run, inputs_of}
 use Rattle.book.specs.history.Log.{retention}
 use Rattle.book.specs.history.Demand3.{History, begun, next, after, Clauses}
 use Rattle.book.specs.declared.makings.Making.{Making}
@@ -19,25 +19,25 @@ pub record Block : Type 0 where
 abbrev pub ran : Book → Block → Run
 ran b x = run x.bytes x.room b x.place x.words
 
-abbrev pub entriesIn : Book → Block → List Input
-entriesIn b x = inputsOf x.bytes x.room b x.place x.words
+abbrev pub entries_in : Book → Block → List Input
+entries_in b x = inputs_of x.bytes x.room b x.place x.words
 
 -- the run's own book, and the log of the entries that were answered 0 so far
-unfoldable pub afterRun : History → Block → History
-afterRun h x = record { book = (ran h.book x).book; log = (after h (entriesIn h.book x)).log }
+unfoldable pub after_run : History → Block → History
+after_run h x = record { book = (ran h.book x).book; log = (after h (entries_in h.book x)).log }
 
 -- an entry that is applied, or a block that is run
 abbrev pub Work : Type 0
 Work = Input ⊎ Block
 
-unfoldable pub afterWork : History → Work → History
-afterWork h (inl x) = next h x
-afterWork h (inr x) = afterRun h x
+unfoldable pub after_work : History → Work → History
+after_work h (inl x) = next h x
+after_work h (inr x) = after_run h x
 
 -- each starts from the book that the one before it handed back
-unfoldable pub afterAll : History → List Work → History
-afterAll h [] = h
-afterAll h (x ∷ work) = afterAll (afterWork h x) work
+unfoldable pub after_all : History → List Work → History
+after_all h [] = h
+after_all h (x ∷ work) = after_all (after_work h x) work
 
 abbrev pub RunDemand3 : Type 0
-RunDemand3 = (m : Making) (work : List Work) → Clauses m.n (retention m.n m.grouping) (afterAll (begun m) work)
+RunDemand3 = (m : Making) (work : List Work) → Clauses m.n (retention m.n m.grouping) (after_all (begun m) work)

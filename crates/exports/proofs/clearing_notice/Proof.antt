@@ -5,20 +5,20 @@ use native.Mathlib.Omega.{arith}
 use lib.ListN.{length}
 use borrow.Author.Tests.{not-true, not-false}
 use Rattle.exports.specs.Slices.{left}
-use Rattle.exports.specs.Orders.{inOrder, Sound, GroupsSound}
+use Rattle.exports.specs.Orders.{in_order, Sound, GroupsSound}
 use Rattle.exports.proofs.OrderLaws.{Fitting, fitting}
 use borrow.Author.Rules.{rules}
 use Rattle.exports.proofs.clearing_notice.Statement.{statement}
 use Rattle.exports.proofs.clearing_notice.Tie as tie
 
-shorter-requires : tie.Need-shorter-requires
-shorter-requires c κs = search rules
+shorter_requires : tie.Need-shorter-requires
+shorter_requires c κs = search rules
 
-in-order-requires : tie.Need-in-order-requires
-in-order-requires c κs = search rules
+in_order_requires : tie.Need-in-order-requires
+in_order_requires c κs = search rules
 
 -- the arguments are in order where the test is passed
-passed : (c : tie.Else1) → let a = c.before.before.before.before.before.before.before.before.before.args in inOrder a.n a.by.now a.to.now a.groups.now a.reserves.now (min (length a.retention.now) (length a.payable.now)) ≡ true
+passed : (c : tie.Else1) → let a = c.before.before.before.before.before.before.before.before.before.args in in_order a.n a.by.now a.to.now a.groups.now a.reserves.now (min (length a.retention.now) (length a.payable.now)) ≡ true
 passed c = not-false _ (rw (c.before.in_order.ensures, c.before.before.shorter.ensures) at c.if1.false)
 
 known : (c : tie.Else1) → let a = c.before.before.before.before.before.before.before.before.before.args in Fitting (Sound a.n a.by.now a.to.now × GroupsSound a.n a.groups.now a.reserves.now) (min (length a.retention.now) (length a.payable.now))
@@ -28,37 +28,37 @@ returns : tie.Need-returns
 unfolding left
 returns c = (sym (not-true _ (rw (c.before.in_order.ensures, c.before.before.shorter.ensures) at c.if1.true)), (refl, refl))
 
-notice-of-requires : tie.Need-notice-of-requires
-notice-of-requires c κs = (known c).sound
+notice_of_requires : tie.Need-notice-of-requires
+notice_of_requires c κs = (known c).sound
 
-put-row-requires : tie.Need-put-row-requires
-put-row-requires c κs = omega (arith, (known c.before.before.before.before).roomy)
+put_row_requires : tie.Need-put-row-requires
+put_row_requires c κs = omega (arith, (known c.before.before.before.before).roomy)
 
-put-row-requires-2 : tie.Need-put-row-requires-2
-put-row-requires-2 c κs = omega (arith, (known c.before.before.before.before.before.before.before.before).roomy)
+put_row_requires_2 : tie.Need-put-row-requires-2
+put_row_requires_2 c κs = omega (arith, (known c.before.before.before.before.before.before.before.before).roomy)
 
 same_length : tie.Need-same-length
 same_length c = search rules
 
-same-length-2 : tie.Need-same-length-2
-same-length-2 c = search rules
+same_length_2 : tie.Need-same-length-2
+same_length_2 c = search rules
 
-returns-2 : tie.Need-returns-2
+returns_2 : tie.Need-returns-2
 unfolding left
-returns-2 c =
+returns_2 c =
     let s = c.before.before.before.before.before.before.before.before.before.before in
-    (sym (passed s.before), (c.before.before.before.before.before.before.put-row.ensures ∙ rw s.notice-of.ensures refl, c.before.before.put-row2.ensures ∙ rw s.notice-of.ensures refl))
+    (sym (passed s.before), (c.before.before.before.before.before.before.put_row.ensures ∙ rw s.notice_of.ensures refl, c.before.before.put_row2.ensures ∙ rw s.notice_of.ensures refl))
 
-pub clearing-notice-spec : {M : Type 1} → statement M
-clearing-notice-spec =
+pub clearing_notice_spec : {M : Type 1} → statement M
+clearing_notice_spec =
     tie.close
     (tie.spec
-    shorter-requires
-    in-order-requires
+    shorter_requires
+    in_order_requires
     returns
-    notice-of-requires
-    put-row-requires
-    put-row-requires-2
+    notice_of_requires
+    put_row_requires
+    put_row_requires_2
     same_length
-    same-length-2
-    returns-2)
+    same_length_2
+    returns_2)

@@ -1,7 +1,7 @@
 -- A block of the input: the bytes that are there of it, listed from a place on.
 use Rattle.std.specs.Prelude.{◌≡◌, ℕ, ◌<◌, ◌≤◌, min, Bool, true, cond, List, [], length, drop}
 use Rattle.text.specs.Puts.{Puts}
-use Rattle.text.specs.Streams.{most, isEnded, isFailed}
+use Rattle.text.specs.Streams.{most, is_ended, is_failed}
 use Rattle.text.specs.declared.streams.Last.{Last}
 use Rattle.text.specs.declared.streams.Last.TheVariants.{More}
 use Rattle.text.specs.declared.streams.Fetched.{Fetched}
@@ -19,12 +19,12 @@ use Rattle.lister.specs.declared.blocks.Standing.{Standing}
 use Rattle.lister.specs.declared.blocks.Next.TheVariants.{Again}
 
 -- the bytes of output that there is room for
-abbrev pub outRoom : ℕ
-outRoom = 262144
+abbrev pub out_room : ℕ
+out_room = 262144
 
 -- where a listing stands in a block
-abbrev pub standIn : List ℕ → Standing → Stand
-standIn feed s = record { number = s.number; book = s.book; left = drop s.place feed }
+abbrev pub stand_in : List ℕ → Standing → Stand
+stand_in feed s = record { number = s.number; book = s.book; left = drop s.place feed }
 
 -- what the functions require of where it stands: a valid book, a place in the block, and payout words as first lent from n on
 pub record Ready (feed : List ℕ) (s : Standing) (words : List ℕ) : Type 0 where
@@ -35,14 +35,14 @@ pub record Ready (feed : List ℕ) (s : Standing) (words : List ℕ) : Type 0 wh
 -- the bytes of output put from the first on, and where the listing then stands, ready to go on
 pub record Wrote (feed out : List ℕ) (z : Standing) (after words put : List ℕ) : Type 0 where
   pub puts : Puts out 0 put after z.wrote
-  pub room : z.wrote ≤ outRoom
+  pub room : z.wrote ≤ out_room
   pub ready : Ready feed z words
 
 -- run after run is listed, until output waits or no further entry can be read
 pub record RunsListed (feed : List ℕ) (a : Standing) (out : List ℕ) (z : Standing) (after words : List ℕ) : Type 0 where
   pub put : List ℕ
   pub wrote : Wrote feed out z after words put
-  pub lists : Lists (standIn feed a) put (standIn feed z)
+  pub lists : Lists (stand_in feed a) put (stand_in feed z)
   pub onward : a.place ≤ z.place
   pub some : waiting < z.wrote → a.place < z.place
   pub stopped : z.wrote ≤ waiting → (reading (drop z.place feed) 0).entry ≡ []
@@ -51,19 +51,19 @@ pub record RunsListed (feed : List ℕ) (a : Standing) (out : List ℕ) (z : Sta
 pub record BlockListed (feed : List ℕ) (a : Standing) (ended : Bool) (out : List ℕ) (z : Standing) (after words : List ℕ) : Type 0 where
   pub put : List ℕ
   pub wrote : Wrote feed out z after words put
-  pub goes : Goes ended z.next z.wrote (standIn feed a) put (standIn feed z)
+  pub goes : Goes ended z.next z.wrote (stand_in feed a) put (stand_in feed z)
 
 -- why a listing ended, by what the last read left
-abbrev pub whyEnded : Last → End
-whyEnded l = cond (isFailed l) NotRead (cond (isEnded l) Input Unread)
+abbrev pub why_ended : Last → End
+why_ended l = cond (is_failed l) NotRead (cond (is_ended l) Input Unread)
 
 -- a listing begins: the header was handed over and written, n and what follows it in the block was read, and the payout words
 -- are as first lent
 pub record Begun (read : Fetched) (o : Output) (feed words : List ℕ) : Type 0 where
   pub some : 0 < read.filled
   pub within : read.filled ≤ length feed
-  pub read-counted : read.input.total ≡ min read.filled most
+  pub read_counted : read.input.total ≡ min read.filled most
   pub brought : read.input.last ≡ More
-  pub header-counted : o.total ≡ length header
-  pub header-written : o.all ≡ true
+  pub header_counted : o.total ≡ length header
+  pub header_written : o.all ≡ true
   pub as_lent : words ≡ lent

@@ -6,11 +6,11 @@ use Rattle.book.proofs.allowed.receipt_allowed.Tie as tie
 returns : tie.Need-returns
 returns c = simp (le-leb _ _ c.if1.true)
 
-cents-allowed-requires : tie.Need-cents-allowed-requires
-cents-allowed-requires c κs = search rules
+cents_allowed_requires : tie.Need-cents-allowed-requires
+cents_allowed_requires c κs = search rules
 
-returns-2 : tie.Need-returns-2
-returns-2 c = simp (lt-leb _ _ c.before.if1.false) c.cents-allowed.ensures
+returns_2 : tie.Need-returns-2
+returns_2 c = simp (lt-leb _ _ c.before.if1.false) c.cents_allowed.ensures
 
-pub receipt-allowed-spec : {M : Type 1} → statement M
-receipt-allowed-spec = tie.close (tie.spec returns cents-allowed-requires returns-2)
+pub receipt_allowed_spec : {M : Type 1} → statement M
+receipt_allowed_spec = tie.close (tie.spec returns cents_allowed_requires returns_2)

@@ -2,11 +2,11 @@ use borrow.Author.Rules.{rules}
 use Rattle.book.proofs.answers.is_accepted.Statement.{statement}
 use Rattle.book.proofs.answers.is_accepted.Tie as tie
 
-number-requires : tie.Need-number-requires
-number-requires c κs = search rules
+number_requires : tie.Need-number-requires
+number_requires c κs = search rules
 
 returns : tie.Need-returns
 returns c = rw c.number.ensures
 
-pub is-accepted-spec : {M : Type 1} → statement M
-is-accepted-spec = tie.close (tie.spec number-requires returns)
+pub is_accepted_spec : {M : Type 1} → statement M
+is_accepted_spec = tie.close (tie.spec number_requires returns)

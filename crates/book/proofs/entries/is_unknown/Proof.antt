@@ -5,8 +5,8 @@ use Rattle.book.proofs.entries.is_unknown.Tie as tie
 returns : tie.Need-returns
 returns c = simp (eq-eqb _ _ c.if1.true)
 
-returns-2 : tie.Need-returns-2
-returns-2 c = simp (ne_eqb _ _ c.if1.false)
+returns_2 : tie.Need-returns-2
+returns_2 c = simp (ne_eqb _ _ c.if1.false)
 
-pub is-unknown-spec : {M : Type 1} → statement M
-is-unknown-spec = tie.close (tie.spec returns returns-2)
+pub is_unknown_spec : {M : Type 1} → statement M
+is_unknown_spec = tie.close (tie.spec returns returns_2)

@@ -7,5 +7,5 @@ returns : tie.Need-returns
 unfolding zeros
 returns c = refl
 
-pub no-making-spec : {M : Type 1} → statement M
-no-making-spec = tie.close (tie.spec returns)
+pub no_making_spec : {M : Type 1} → statement M
+no_making_spec = tie.close (tie.spec returns)

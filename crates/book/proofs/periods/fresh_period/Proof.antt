@@ -7,5 +7,5 @@ returns : tie.Need-returns
 unfolding fresh zeros
 returns c = refl
 
-pub fresh-period-spec : {M : Type 1} → statement M
-fresh-period-spec = tie.close (tie.spec returns)
+pub fresh_period_spec : {M : Type 1} → statement M
+fresh_period_spec = tie.close (tie.spec returns)

@@ -4,75 +4,75 @@ use mathlib.Core.Bool.{Bool, cond}
 use mathlib.Core.List.{List}
 use native.Mathlib.Omega.{arith}
 use lib.ListN.{get_or, drop}
-use Rattle.book.proofs.rules.LimitLaws.{many-places}
+use Rattle.book.proofs.rules.LimitLaws.{many_places}
 use borrow.Author.Rules.{rules}
 use Rattle.exact.specs.Rows.{at}
-use Rattle.exact.proofs.RowLaws.{sum-term, cells_at}
+use Rattle.exact.proofs.RowLaws.{sum_term, cells_at}
 use Rattle.exact.proofs.Cases.{cases}
-use Rattle.book.specs.rules.Limits.{periodPlaces}
-use Rattle.book.specs.rules.State.{view, noPeriod, arrearsBefore, earlierArrears}
-use Rattle.book.proofs.rules.PurseLaws.{barred-either}
-use Rattle.book.proofs.records.Bounds.{purses-bound}
-use Rattle.book.proofs.records.Packing.{earlier_more, earlier-end}
+use Rattle.book.specs.rules.Limits.{period_places}
+use Rattle.book.specs.rules.State.{view, no_period, arrears_before, earlier_arrears}
+use Rattle.book.proofs.rules.PurseLaws.{barred_either}
+use Rattle.book.proofs.records.Bounds.{purses_bound}
+use Rattle.book.proofs.records.Packing.{earlier_more, earlier_end}
 use Rattle.book.proofs.purses.unbarred_purses.Statement.{statement}
 use Rattle.book.proofs.purses.unbarred_purses.Tie as tie
 
 -- what is left of the purses, barred by the periods from k on, comes to the purses barred by all
-abbrev invariant-loop : tie.invariant-loop
-invariant-loop number b purses₀ k₀ purses k =
-    (k ≤ periodPlaces)
-    × ((i : ℕ) → i < b.n → cond (earlierArrears i number (drop k (view b).periods)) 0 (at purses i) ≡ cond (earlierArrears i number (view b).periods) 0 (at b.purses i))
+abbrev invariant_loop : tie.invariant_loop
+invariant_loop number b purses₀ k₀ purses k =
+    (k ≤ period_places)
+    × ((i : ℕ) → i < b.n → cond (earlier_arrears i number (drop k (view b).periods)) 0 (at purses i) ≡ cond (earlier_arrears i number (view b).periods) 0 (at b.purses i))
 
-abbrev decreases-loop : tie.decreases-loop
-decreases-loop number b purses₀ k₀ purses k = periodPlaces - k
+abbrev decreases_loop : tie.decreases_loop
+decreases_loop number b purses₀ k₀ purses k = period_places - k
 
-loop-holds : tie.Need-loop-init invariant-loop decreases-loop
-loop-holds c = (omega arith, λ i h. refl)
+loop_holds : tie.Need-loop-init invariant_loop decreases_loop
+loop_holds c = (omega arith, λ i h. refl)
 
-mul-p : tie.Need-overflow-mul-p invariant-loop decreases-loop
-mul-p c = omega arith
+mul_p : tie.Need-overflow-mul-p invariant_loop decreases_loop
+mul_p c = omega arith
 
-element-copy-out-p : tie.Need-element-copy-out-p invariant-loop decreases-loop
-element-copy-out-p c = omega arith
+element_copy_out_p : tie.Need-element-copy-out-p invariant_loop decreases_loop
+element_copy_out_p c = omega arith
 
-unbarred-requires : tie.Need-unbarred-requires invariant-loop decreases-loop
-unbarred-requires c κs = many-places c.before.before.before.before.requires.fit
+unbarred_requires : tie.Need-unbarred-requires invariant_loop decreases_loop
+unbarred_requires c κs = many_places c.before.before.before.before.requires.fit
 
-add-k : tie.Need-overflow-add-k invariant-loop decreases-loop
-add-k c = search rules
+add_k : tie.Need-overflow-add-k invariant_loop decreases_loop
+add_k c = search rules
 
-loop-less : tie.Need-loop-smaller invariant-loop decreases-loop
-loop-less c = omega arith
+loop_less : tie.Need-loop-smaller invariant_loop decreases_loop
+loop_less c = omega arith
 
-loop-again : tie.Need-loop-preserved invariant-loop decreases-loop
-loop-again c =
+loop_again : tie.Need-loop-preserved invariant_loop decreases_loop
+loop_again c =
     let l = c.before.before.before.loop in
     let s = c.before.before.before.before.before in (
       omega arith,
       λ i h.
-          ap (λ z. cond (earlierArrears i s.args.number (drop (l.k + 1) (view s.args.t1).periods)) 0 z) (ap (λ (r : List ℕ). at r i) c.unbarred.ensures ∙ cells_at _ _ i h)
-          ∙ barred-either (arrearsBefore i s.args.number (get_or s.args.t1.periods l.k noPeriod)) (earlierArrears i s.args.number (drop (l.k + 1) (view s.args.t1).periods)) (at l.purses i)
+          ap (λ z. cond (earlier_arrears i s.args.number (drop (l.k + 1) (view s.args.t1).periods)) 0 z) (ap (λ (r : List ℕ). at r i) c.unbarred.ensures ∙ cells_at _ _ i h)
+          ∙ barred_either (arrears_before i s.args.number (get_or s.args.t1.periods l.k no_period)) (earlier_arrears i s.args.number (drop (l.k + 1) (view s.args.t1).periods)) (at l.purses i)
           ∙ ap (λ (t : Bool). cond t 0 (at l.purses i)) (sym (earlier_more s.requires l.k i s.args.number (omega arith)))
           ∙ l.invariant.1 i h,
     )
 
-returns : tie.Need-returns invariant-loop decreases-loop
+returns : tie.Need-returns invariant_loop decreases_loop
 returns c =
     let l = c.before.loop in
     let s = c.before.before.before in
-    λ i h. sym (ap (λ (t : Bool). cond t 0 (at l.purses i)) (earlier-end s.requires l.k i s.args.number (omega arith))) ∙ l.invariant.1 i h
+    λ i h. sym (ap (λ (t : Bool). cond t 0 (at l.purses i)) (earlier_end s.requires l.k i s.args.number (omega arith))) ∙ l.invariant.1 i h
 
-pub unbarred-purses-spec : {M : Type 1} → statement M
-unbarred-purses-spec =
+pub unbarred_purses_spec : {M : Type 1} → statement M
+unbarred_purses_spec =
     tie.close
     (tie.spec
-    invariant-loop
-    decreases-loop
-    loop-holds
-    mul-p
-    element-copy-out-p
-    unbarred-requires
-    add-k
-    loop-less
-    loop-again
+    invariant_loop
+    decreases_loop
+    loop_holds
+    mul_p
+    element_copy_out_p
+    unbarred_requires
+    add_k
+    loop_less
+    loop_again
     returns)

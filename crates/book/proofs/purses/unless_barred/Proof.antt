@@ -8,13 +8,13 @@ returns c =
     let some : 0 < c.before.before.args.arrears = c.if2.true in
     rw (c.before.if1.true, lt-ltb _ _ some)
 
-returns-2 : tie.Need-returns-2
-returns-2 c =
+returns_2 : tie.Need-returns-2
+returns_2 c =
     let none : c.before.before.args.arrears ≤ 0 = c.if2.false in
     rw (c.before.if1.true, le-ltb _ _ none)
 
-returns-3 : tie.Need-returns-3
-returns-3 c = rw c.if1.false
+returns_3 : tie.Need-returns-3
+returns_3 c = rw c.if1.false
 
-pub unless-barred-spec : {M : Type 1} → statement M
-unless-barred-spec = tie.close (tie.spec returns returns-2 returns-3)
+pub unless_barred_spec : {M : Type 1} → statement M
+unless_barred_spec = tie.close (tie.spec returns returns_2 returns_3)

@@ -3,8 +3,8 @@ use Rattle.book.specs.layouts.Entries.{bytes_of}
 use Rattle.book.proofs.writer.put_amount.Statement.{statement}
 use Rattle.book.proofs.writer.put_amount.Tie as tie
 
-put-sided-requires : tie.Need-put-sided-requires
-put-sided-requires c κs = search rules
+put_sided_requires : tie.Need-put-sided-requires
+put_sided_requires c κs = search rules
 
 same_length : tie.Need-same-length
 same_length c = search rules
@@ -13,5 +13,5 @@ returns : tie.Need-returns
 unfolding bytes_of
 returns c = search rules
 
-pub put-amount-spec : {M : Type 1} → statement M
-put-amount-spec = tie.close (tie.spec put-sided-requires same_length returns)
+pub put_amount_spec : {M : Type 1} → statement M
+put_amount_spec = tie.close (tie.spec put_sided_requires same_length returns)

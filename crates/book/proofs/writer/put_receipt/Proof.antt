@@ -3,18 +3,18 @@ use borrow.Author.Rules.{rules}
 use mathlib.Core.List.{[], ◌∷◌}
 use mathlib.Core.Path.{sym, ◌∙◌}
 use Rattle.book.specs.layouts.Entries.{layout, bytes_of}
-use Rattle.book.proofs.layouts.FieldLaws.{put-fields}
+use Rattle.book.proofs.layouts.FieldLaws.{put_fields}
 use Rattle.book.proofs.writer.put_receipt.Statement.{statement}
 use Rattle.book.proofs.writer.put_receipt.Tie as tie
 
-put-head-requires : tie.Need-put-head-requires
-put-head-requires c κs = search rules
+put_head_requires : tie.Need-put-head-requires
+put_head_requires c κs = search rules
 
-put-requires : tie.Need-put-requires
-put-requires c κs = search rules
+put_requires : tie.Need-put-requires
+put_requires c κs = search rules
 
-put-requires-2 : tie.Need-put-requires-2
-put-requires-2 c κs = search rules
+put_requires_2 : tie.Need-put-requires-2
+put_requires_2 c κs = search rules
 
 same_length : tie.Need-same-length
 same_length c = search rules
@@ -27,9 +27,9 @@ returns c =
     let h = p1.before.before.before.before in
     let a = h.before.before.before.args in
     p2.put2.ensures
-    ∙ rw (p1.put.ensures, h.put-head.ensures)
-    (sym (put-fields (layout 5) (a.period ∷ a.participant ∷ a.cents ∷ []) _ 1))
+    ∙ rw (p1.put.ensures, h.put_head.ensures)
+    (sym (put_fields (layout 5) (a.period ∷ a.participant ∷ a.cents ∷ []) _ 1))
 
-pub put-receipt-spec : {M : Type 1} → statement M
-put-receipt-spec =
-    tie.close (tie.spec put-head-requires put-requires put-requires-2 same_length returns)
+pub put_receipt_spec : {M : Type 1} → statement M
+put_receipt_spec =
+    tie.close (tie.spec put_head_requires put_requires put_requires_2 same_length returns)

@@ -2,27 +2,27 @@
 use borrow.Author.Rules.{rules}
 use mathlib.Core.List.{[], ◌∷◌}
 use mathlib.Core.Path.{sym, ◌∙◌}
-use Rattle.book.proofs.layouts.FieldLaws.{put-fields}
+use Rattle.book.proofs.layouts.FieldLaws.{put_fields}
 use Rattle.book.proofs.writer.put_sided.Statement.{statement}
 use Rattle.book.proofs.writer.put_sided.Tie as tie
 
-put-head-requires : tie.Need-put-head-requires
-put-head-requires c κs = search rules
+put_head_requires : tie.Need-put-head-requires
+put_head_requires c κs = search rules
 
-put-requires : tie.Need-put-requires
-put-requires c κs = search rules
+put_requires : tie.Need-put-requires
+put_requires c κs = search rules
 
-put-requires-2 : tie.Need-put-requires-2
-put-requires-2 c κs = search rules
+put_requires_2 : tie.Need-put-requires-2
+put_requires_2 c κs = search rules
 
-put-requires-3 : tie.Need-put-requires-3
-put-requires-3 c κs = search rules
+put_requires_3 : tie.Need-put-requires-3
+put_requires_3 c κs = search rules
 
-add-put : tie.Need-overflow-add-put
-add-put c = search rules
+add_put : tie.Need-overflow-add-put
+add_put c = search rules
 
-put-requires-4 : tie.Need-put-requires-4
-put-requires-4 c κs = search rules
+put_requires_4 : tie.Need-put-requires-4
+put_requires_4 c κs = search rules
 
 same_length : tie.Need-same-length
 same_length c = search rules
@@ -36,18 +36,18 @@ returns c =
     let h = p1.before.before.before.before in
     let a = h.before.before.before.args in
     p4.put4.ensures
-    ∙ rw (p3.put3.ensures, p2.put2.ensures, p1.put.ensures, h.put-head.ensures)
-    (sym (put-fields (4 ∷ 1 ∷ 1 ∷ a.next.width ∷ a.last.width ∷ []) (a.period ∷ a.participant ∷ a.side ∷ a.next.value ∷ a.last.value ∷ []) _ 1))
+    ∙ rw (p3.put3.ensures, p2.put2.ensures, p1.put.ensures, h.put_head.ensures)
+    (sym (put_fields (4 ∷ 1 ∷ 1 ∷ a.next.width ∷ a.last.width ∷ []) (a.period ∷ a.participant ∷ a.side ∷ a.next.value ∷ a.last.value ∷ []) _ 1))
 
-pub put-sided-spec : {M : Type 1} → statement M
-put-sided-spec =
+pub put_sided_spec : {M : Type 1} → statement M
+put_sided_spec =
     tie.close
     (tie.spec
-    put-head-requires
-    put-requires
-    put-requires-2
-    put-requires-3
-    add-put
-    put-requires-4
+    put_head_requires
+    put_requires
+    put_requires_2
+    put_requires_3
+    add_put
+    put_requires_4
     same_length
     returns)

@@ -4,7 +4,7 @@ use mathlib.Core.Path.{◌≡◌, refl}
 use Prim.Native.Nat.{ℕ, ◌+◌, ◌*◌, ◌/◌, ◌%◌, ◌^◌}
 use native.Mathlib.Nat.{mod-lt}
 use native.Mathlib.Omega.{arith}
-use Rattle.exact.proofs.LongDivision.{digit-le, quotient_le}
+use Rattle.exact.proofs.LongDivision.{digit_le, quotient_le}
 use Rattle.exact.proofs.division.proportion.Statement.{statement}
 use Rattle.exact.proofs.division.proportion.Tie as tie
 
@@ -17,41 +17,41 @@ whole b = omega arith
 
 -- after the first call, the upper digits are divided
 middle : (c : tie.After-next-digit) →
-    (c.next-digit.result.quotient ≡ upper c.before.args.amount * c.before.args.part / c.before.args.whole) ×
-    (c.next-digit.result.remainder ≡ upper c.before.args.amount * c.before.args.part % c.before.args.whole)
-middle c = c.next-digit.ensures (c.before.args.amount / 2 ^ 30) refl refl
+    (c.next_digit.result.quotient ≡ upper c.before.args.amount * c.before.args.part / c.before.args.whole) ×
+    (c.next_digit.result.remainder ≡ upper c.before.args.amount * c.before.args.part % c.before.args.whole)
+middle c = c.next_digit.ensures (c.before.args.amount / 2 ^ 30) refl refl
 
-mul-n : tie.Need-overflow-mul-n
-mul-n c = omega (arith, digit-le {k = c.args.amount / 2 ^ 30} {B = 2 ^ 14} c.requires.within (omega arith))
+mul_n : tie.Need-overflow-mul-n
+mul_n c = omega (arith, digit_le {k = c.args.amount / 2 ^ 30} {B = 2 ^ 14} c.requires.within (omega arith))
 
-div-next-digit : tie.Need-nonzero-div-next-digit
-div-next-digit c = search rules
+div_next_digit : tie.Need-nonzero-div-next-digit
+div_next_digit c = search rules
 
-rem-next-digit : tie.Need-nonzero-rem-next-digit
-rem-next-digit c = search rules
+rem_next_digit : tie.Need-nonzero-rem-next-digit
+rem_next_digit c = search rules
 
-next-digit-requires : tie.Need-next-digit-requires
-next-digit-requires c κs =
+next_digit_requires : tie.Need-next-digit-requires
+next_digit_requires c κs =
     let a = c.args in
     omega (arith, quotient_le (a.amount / 2 ^ 30) c.requires.within, mod-lt (a.amount / 2 ^ 30 * a.part) c.requires.some)
 
-next-digit-requires-2 : tie.Need-next-digit-requires-2
-next-digit-requires-2 c κs =
+next_digit_requires_2 : tie.Need-next-digit-requires-2
+next_digit_requires_2 c κs =
     let s = c.before in
     omega (arith, middle c, quotient_le (upper s.args.amount) s.requires.within, mod-lt (upper s.args.amount * s.args.part) s.requires.some)
 
 returns : tie.Need-returns
 returns c =
     let b = c.before.before.args.amount in
-    rw (whole b) at (c.next-digit2.ensures (upper b) (middle c.before).0 (middle c.before).1)
+    rw (whole b) at (c.next_digit2.ensures (upper b) (middle c.before).0 (middle c.before).1)
 
-pub proportion-spec : {M : Type 1} → statement M
-proportion-spec =
+pub proportion_spec : {M : Type 1} → statement M
+proportion_spec =
     tie.close
     (tie.spec
-    mul-n
-    div-next-digit
-    rem-next-digit
-    next-digit-requires
-    next-digit-requires-2
+    mul_n
+    div_next_digit
+    rem_next_digit
+    next_digit_requires
+    next_digit_requires_2
     returns)

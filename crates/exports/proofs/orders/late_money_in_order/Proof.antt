@@ -5,113 +5,113 @@ use native.Mathlib.Omega.{arith}
 use lib.ListN.{length}
 use borrow.Author.Tests.{not-true, not-false}
 use Rattle.exact.specs.Rows.{at, sum}
-use Rattle.exact.proofs.RowLaws.{sum-term, holds, sum-holds}
-use Rattle.exports.specs.Slices.{rowOf, owingOf}
-use Rattle.exports.specs.Orders.{TiersSound, all_of, eachAtMost, owingInOrder, lateMoneyInOrder}
-use Rattle.exports.proofs.EachLaws.{each_holds, each-excess}
-use Rattle.exports.proofs.OrderLaws.{Fitting, tiers-fitting, last-test}
+use Rattle.exact.proofs.RowLaws.{sum_term, holds, sum_holds}
+use Rattle.exports.specs.Slices.{row_of, owing_of}
+use Rattle.exports.specs.Orders.{TiersSound, all_of, each_at_most, owing_in_order, late_money_in_order}
+use Rattle.exports.proofs.EachLaws.{each_holds, each_excess}
+use Rattle.exports.proofs.OrderLaws.{Fitting, tiers_fitting, last_test}
 use borrow.Author.Rules.{rules}
 use Rattle.exports.proofs.orders.late_money_in_order.Statement.{statement}
 use Rattle.exports.proofs.orders.late_money_in_order.Tie as tie
 
-shorter-requires : tie.Need-shorter-requires
-shorter-requires c κs = search rules
+shorter_requires : tie.Need-shorter-requires
+shorter_requires c κs = search rules
 
-shorter-requires-2 : tie.Need-shorter-requires-2
-shorter-requires-2 c κs = search rules
+shorter_requires_2 : tie.Need-shorter-requires-2
+shorter_requires_2 c κs = search rules
 
-owing-in-order-requires : tie.Need-owing-in-order-requires
-owing-in-order-requires c κs = search rules
+owing_in_order_requires : tie.Need-owing-in-order-requires
+owing_in_order_requires c κs = search rules
 
 -- the first test is of the side owing to participants
-tiers-tested : (c : tie.After-owing-in-order) → let a = c.before.before.before.before.before.before.args in c.owing-in-order.result ≡ owingInOrder a.n a.to.now (min (length a.claims.now) (min (length a.paid.now) a.room))
-tiers-tested c = rw (c.before.shorter2.ensures, c.before.before.shorter.ensures) at c.owing-in-order.ensures
+tiers_tested : (c : tie.After-owing-in-order) → let a = c.before.before.before.before.before.before.args in c.owing_in_order.result ≡ owing_in_order a.n a.to.now (min (length a.claims.now) (min (length a.paid.now) a.room))
+tiers_tested c = rw (c.before.shorter2.ensures, c.before.before.shorter.ensures) at c.owing_in_order.ensures
 
-passed : (c : tie.Else1) → let a = c.before.before.before.before.before.before.before.args in owingInOrder a.n a.to.now (min (length a.claims.now) (min (length a.paid.now) a.room)) ≡ true
-passed c = sym (tiers-tested c.before) ∙ not-false _ c.if1.false
+passed : (c : tie.Else1) → let a = c.before.before.before.before.before.before.before.args in owing_in_order a.n a.to.now (min (length a.claims.now) (min (length a.paid.now) a.room)) ≡ true
+passed c = sym (tiers_tested c.before) ∙ not-false _ c.if1.false
 
 known : (c : tie.Else1) → let a = c.before.before.before.before.before.before.before.args in Fitting (TiersSound a.n a.to.now) (min (length a.claims.now) (min (length a.paid.now) a.room))
-known c = tiers-fitting _ _ _ (passed c)
+known c = tiers_fitting _ _ _ (passed c)
 
 returns : tie.Need-returns
-unfolding all_of lateMoneyInOrder
-returns c = simp (sym (tiers-tested c.before) ∙ not-true _ c.if1.true)
+unfolding all_of late_money_in_order
+returns c = simp (sym (tiers_tested c.before) ∙ not-true _ c.if1.true)
 
-tier-cells-of-requires : tie.Need-tier-cells-of-requires
-tier-cells-of-requires c κs = (known c).sound.long
+tier_cells_of_requires : tie.Need-tier-cells-of-requires
+tier_cells_of_requires c κs = (known c).sound.long
 
-over-tiers-requires : tie.Need-over-tiers-requires
-over-tiers-requires c κs =
+over_tiers_requires : tie.Need-over-tiers-requires
+over_tiers_requires c κs =
     let a = c.before.before.before.before.before.before.before.before.args in
     let k = (known c.before).sound in
-    (k.few, λ i h. rw c.tier-cells-of.ensures (omega (arith, k.total, sum-term (owingOf a.to.now) a.n i h)))
+    (k.few, λ i h. rw c.tier_cells_of.ensures (omega (arith, k.total, sum_term (owing_of a.to.now) a.n i h)))
 
-row-of-requires : tie.Need-row-of-requires
-row-of-requires c κs = omega (arith, (known c.before.before).roomy)
+row_of_requires : tie.Need-row-of-requires
+row_of_requires c κs = omega (arith, (known c.before.before).roomy)
 
-each-at-most-requires : tie.Need-each-at-most-requires
-each-at-most-requires c κs = (known c.before.before.before).sound.few
+each_at_most_requires : tie.Need-each-at-most-requires
+each_at_most_requires c κs = (known c.before.before.before).sound.few
 
 -- the second test is of the claims and what is owing
-claims-tested : (c : tie.After-each-at-most) → let a = c.before.before.before.before.before.before.before.before.before.before.before.args in c.each-at-most.result ≡ eachAtMost (rowOf a.claims.now) (owingOf a.to.now) a.n
-claims-tested c = c.each-at-most.ensures ∙ rw c.before.row_of.ensures (each_holds _ (holds _ _ (c.before.before.over-tiers.ensures ∙ rw c.before.before.before.tier-cells-of.ensures refl)))
+claims_tested : (c : tie.After-each-at-most) → let a = c.before.before.before.before.before.before.before.before.before.before.before.args in c.each_at_most.result ≡ each_at_most (row_of a.claims.now) (owing_of a.to.now) a.n
+claims_tested c = c.each_at_most.ensures ∙ rw c.before.row_of.ensures (each_holds _ (holds _ _ (c.before.before.over_tiers.ensures ∙ rw c.before.before.before.tier_cells_of.ensures refl)))
 
-claims-owing : (c : tie.Else2) → let a = c.before.before.before.before.before.before.before.before.before.before.before.before.args in eachAtMost (rowOf a.claims.now) (owingOf a.to.now) a.n ≡ true
-claims-owing c = sym (claims-tested c.before) ∙ not-false _ c.if2.false
+claims_owing : (c : tie.Else2) → let a = c.before.before.before.before.before.before.before.before.before.before.before.before.args in each_at_most (row_of a.claims.now) (owing_of a.to.now) a.n ≡ true
+claims_owing c = sym (claims_tested c.before) ∙ not-false _ c.if2.false
 
-returns-2 : tie.Need-returns-2
-unfolding all_of lateMoneyInOrder
-returns-2 c = simp (passed c.before.before.before.before.before, sym (claims-tested c.before) ∙ not-true _ c.if2.true)
+returns_2 : tie.Need-returns-2
+unfolding all_of late_money_in_order
+returns_2 c = simp (passed c.before.before.before.before.before, sym (claims_tested c.before) ∙ not-true _ c.if2.true)
 
-row-of-requires-2 : tie.Need-row-of-requires-2
-row-of-requires-2 c κs = omega (arith, (known c.before.before.before.before.before).roomy)
+row_of_requires_2 : tie.Need-row-of-requires-2
+row_of_requires_2 c κs = omega (arith, (known c.before.before.before.before.before).roomy)
 
-each-at-most-requires-2 : tie.Need-each-at-most-requires-2
-each-at-most-requires-2 c κs = (known c.before.before.before.before.before.before).sound.few
+each_at_most_requires_2 : tie.Need-each-at-most-requires-2
+each_at_most_requires_2 c κs = (known c.before.before.before.before.before.before).sound.few
 
 -- the third is of what was paid and the claims
-paid-tested : (c : tie.After-each-at-most2) → let a = c.before.before.before.before.before.before.before.before.before.before.before.before.before.before.args in c.each-at-most2.result ≡ eachAtMost (rowOf a.paid.now) (rowOf a.claims.now) a.n
-paid-tested c = c.each-at-most2.ensures ∙ rw (c.before.row-of2.ensures, c.before.before.before.before.row_of.ensures) refl
+paid_tested : (c : tie.After-each-at-most2) → let a = c.before.before.before.before.before.before.before.before.before.before.before.before.before.before.args in c.each_at_most2.result ≡ each_at_most (row_of a.paid.now) (row_of a.claims.now) a.n
+paid_tested c = c.each_at_most2.ensures ∙ rw (c.before.row_of2.ensures, c.before.before.before.before.row_of.ensures) refl
 
-returns-3 : tie.Need-returns-3
-unfolding all_of lateMoneyInOrder
-returns-3 c = simp (passed c.before.before.before.before.before.before.before.before, claims-owing c.before.before.before, sym (paid-tested c.before) ∙ not-true _ c.if3.true)
+returns_3 : tie.Need-returns-3
+unfolding all_of late_money_in_order
+returns_3 c = simp (passed c.before.before.before.before.before.before.before.before, claims_owing c.before.before.before, sym (paid_tested c.before) ∙ not-true _ c.if3.true)
 
-excesses-requires : tie.Need-excesses-requires
-excesses-requires c κs = (known c.before.before.before.before.before.before.before.before).sound.few
+excesses_requires : tie.Need-excesses-requires
+excesses_requires c κs = (known c.before.before.before.before.before.before.before.before).sound.few
 
 -- what is unpaid of the claims
-unpaid : (c : tie.After-excesses) → let a = c.before.before.before.before.before.before.before.before.before.before.before.before.before.before.before.before.args in sum (at c.excesses.result) a.n ≡ sum (λ i. rowOf a.claims.now i - rowOf a.paid.now i) a.n
-unpaid c = sum-holds (holds _ _ (c.excesses.ensures ∙ rw (c.before.before.before.row-of2.ensures, c.before.before.before.before.before.before.row_of.ensures) refl))
+unpaid : (c : tie.After-excesses) → let a = c.before.before.before.before.before.before.before.before.before.before.before.before.before.before.before.before.args in sum (at c.excesses.result) a.n ≡ sum (λ i. row_of a.claims.now i - row_of a.paid.now i) a.n
+unpaid c = sum_holds (holds _ _ (c.excesses.ensures ∙ rw (c.before.before.before.row_of2.ensures, c.before.before.before.before.before.before.row_of.ensures) refl))
 
-total-requires : tie.Need-total-requires
-total-requires c κs =
+total_requires : tie.Need-total-requires
+total_requires c κs =
     let a = c.before.before.before.before.before.before.before.before.before.before.before.before.before.before.before.before.args in
     let k = (known c.before.before.before.before.before.before.before.before.before).sound in
-    (k.few, rw (unpaid c) (omega (arith, k.total, each-excess (rowOf a.claims.now) (owingOf a.to.now) (rowOf a.paid.now) a.n (claims-owing c.before.before.before.before))))
+    (k.few, rw (unpaid c) (omega (arith, k.total, each_excess (row_of a.claims.now) (owing_of a.to.now) (row_of a.paid.now) a.n (claims_owing c.before.before.before.before))))
 
-returns-4 : tie.Need-returns-4
-unfolding all_of lateMoneyInOrder
-returns-4 c =
-    simp (passed c.before.before.before.before.before.before.before.before.before.before, claims-owing c.before.before.before.before.before, sym (paid-tested c.before.before.before) ∙ not-false _ c.before.before.if3.false)
-    (rw (c.total.ensures, unpaid c.before) (last-test _))
+returns_4 : tie.Need-returns-4
+unfolding all_of late_money_in_order
+returns_4 c =
+    simp (passed c.before.before.before.before.before.before.before.before.before.before, claims_owing c.before.before.before.before.before, sym (paid_tested c.before.before.before) ∙ not-false _ c.before.before.if3.false)
+    (rw (c.total.ensures, unpaid c.before) (last_test _))
 
-pub late-money-in-order-spec : {M : Type 1} → statement M
-late-money-in-order-spec =
+pub late_money_in_order_spec : {M : Type 1} → statement M
+late_money_in_order_spec =
     tie.close
     (tie.spec
-    shorter-requires
-    shorter-requires-2
-    owing-in-order-requires
+    shorter_requires
+    shorter_requires_2
+    owing_in_order_requires
     returns
-    tier-cells-of-requires
-    over-tiers-requires
-    row-of-requires
-    each-at-most-requires
-    returns-2
-    row-of-requires-2
-    each-at-most-requires-2
-    returns-3
-    excesses-requires
-    total-requires
-    returns-4)
+    tier_cells_of_requires
+    over_tiers_requires
+    row_of_requires
+    each_at_most_requires
+    returns_2
+    row_of_requires_2
+    each_at_most_requires_2
+    returns_3
+    excesses_requires
+    total_requires
+    returns_4)

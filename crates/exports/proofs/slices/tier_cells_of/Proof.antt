@@ -4,61 +4,61 @@ use native.Mathlib.Omega.{arith}
 use lib.ListN.{replicate}
 use Rattle.exact.specs.Rows.{at, filled}
 use Rattle.exact.proofs.RowLaws.{filled_none, filled_more}
-use Rattle.exports.specs.Slices.{tierPlaces}
-use Rattle.exports.proofs.SliceLaws.{filled-front}
+use Rattle.exports.specs.Slices.{tier_places}
+use Rattle.exports.proofs.SliceLaws.{filled_front}
 use borrow.Author.Rules.{rules}
 use Rattle.exports.proofs.slices.tier_cells_of.Statement.{statement}
 use Rattle.exports.proofs.slices.tier_cells_of.Tie as tie
 
-abbrev invariant-loop : tie.invariant-loop
-invariant-loop s out₀ i₀ out i = (i ≤ tierPlaces) × (out ≡ filled (at s) i (replicate tierPlaces 0))
+abbrev invariant_loop : tie.invariant_loop
+invariant_loop s out₀ i₀ out i = (i ≤ tier_places) × (out ≡ filled (at s) i (replicate tier_places 0))
 
-abbrev decreases-loop : tie.decreases-loop
-decreases-loop s out₀ i₀ out i = tierPlaces - i
+abbrev decreases_loop : tie.decreases_loop
+decreases_loop s out₀ i₀ out i = tier_places - i
 
-loop-holds : tie.Need-loop-init invariant-loop decreases-loop
-loop-holds c = (search rules, filled_none _ _)
+loop_holds : tie.Need-loop-init invariant_loop decreases_loop
+loop_holds c = (search rules, filled_none _ _)
 
-mul-out : tie.Need-overflow-mul-out invariant-loop decreases-loop
-mul-out c = search rules
+mul_out : tie.Need-overflow-mul-out invariant_loop decreases_loop
+mul_out c = search rules
 
-shared-slice-read-out : tie.Need-shared-slice-read-out invariant-loop decreases-loop
-shared-slice-read-out c = search rules
+shared_slice_read_out : tie.Need-shared-slice-read-out invariant_loop decreases_loop
+shared_slice_read_out c = search rules
 
-mul-out-2 : tie.Need-overflow-mul-out-2 invariant-loop decreases-loop
-mul-out-2 c = search rules
+mul_out_2 : tie.Need-overflow-mul-out-2 invariant_loop decreases_loop
+mul_out_2 c = search rules
 
-array-write-out : tie.Need-array-write-out invariant-loop decreases-loop
-array-write-out c = search rules
+array_write_out : tie.Need-array-write-out invariant_loop decreases_loop
+array_write_out c = search rules
 
-add-i : tie.Need-overflow-add-i invariant-loop decreases-loop
-add-i c = search rules
+add_i : tie.Need-overflow-add-i invariant_loop decreases_loop
+add_i c = search rules
 
-loop-less : tie.Need-loop-smaller invariant-loop decreases-loop
-loop-less c = search rules
+loop_less : tie.Need-loop-smaller invariant_loop decreases_loop
+loop_less c = search rules
 
-loop-again : tie.Need-loop-preserved invariant-loop decreases-loop
-loop-again c =
+loop_again : tie.Need-loop-preserved invariant_loop decreases_loop
+loop_again c =
     let l = c.before.before.loop in
-    (search rules, rw l.invariant.1 (filled_more (at c.before.before.before.args.s.now) 0 l.i (replicate tierPlaces 0) (omega arith)))
+    (search rules, rw l.invariant.1 (filled_more (at c.before.before.before.args.s.now) 0 l.i (replicate tier_places 0) (omega arith)))
 
-returns : tie.Need-returns invariant-loop decreases-loop
+returns : tie.Need-returns invariant_loop decreases_loop
 returns c =
-    let e : c.before.loop.i ≡ tierPlaces = omega arith in
-    c.before.loop.invariant.1 ∙ rw e (filled-front c.before.before.args.s.now (replicate tierPlaces 0) tierPlaces c.before.before.requires refl)
+    let e : c.before.loop.i ≡ tier_places = omega arith in
+    c.before.loop.invariant.1 ∙ rw e (filled_front c.before.before.args.s.now (replicate tier_places 0) tier_places c.before.before.requires refl)
 
-pub tier-cells-of-spec : {M : Type 1} → statement M
-tier-cells-of-spec =
+pub tier_cells_of_spec : {M : Type 1} → statement M
+tier_cells_of_spec =
     tie.close
     (tie.spec
-    invariant-loop
-    decreases-loop
-    loop-holds
-    mul-out
-    shared-slice-read-out
-    mul-out-2
-    array-write-out
-    add-i
-    loop-less
-    loop-again
+    invariant_loop
+    decreases_loop
+    loop_holds
+    mul_out
+    shared_slice_read_out
+    mul_out_2
+    array_write_out
+    add_i
+    loop_less
+    loop_again
     returns)

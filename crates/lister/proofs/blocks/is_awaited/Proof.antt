@@ -5,8 +5,8 @@ use Rattle.lister.proofs.blocks.is_awaited.Tie as tie
 returns : tie.Need-returns
 returns c = search rules
 
-returns-2 : tie.Need-returns-2
-returns-2 c = rw c.if1.false
+returns_2 : tie.Need-returns-2
+returns_2 c = rw c.if1.false
 
-pub is-awaited-spec : {M : Type 1} → statement M
-is-awaited-spec = tie.close (tie.spec returns returns-2)
+pub is_awaited_spec : {M : Type 1} → statement M
+is_awaited_spec = tie.close (tie.spec returns returns_2)

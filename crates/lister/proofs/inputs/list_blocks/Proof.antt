@@ -1,170 +1,170 @@
 use Rattle.std.proofs.Common.{◌≡◌, ◌-◌, ◌≤◌, true, length, get_or, sym, ap, ◌∙◌, subst, arith, rules}
 use borrow.Author.Tests.{not-true, not-false}
 use Rattle.book.specs.declared.limits.Limits.{Limits}
-use Rattle.lister.specs.Listing.{bookFor}
+use Rattle.lister.specs.Listing.{book_for}
 use Rattle.lister.specs.Sessions.{Session}
 use Rattle.lister.specs.declared.blocks.Standing.{Standing}
-use Rattle.lister.proofs.SessionLaws.{Looping, loop-begins, loop-turns, ready-part, Turned, turned, turn-not-written, turn-done, turn-again, left-more, left-few, turn-not-read, turn-read}
+use Rattle.lister.proofs.SessionLaws.{Looping, loop_begins, loop_turns, ready_part, Turned, turned, turn_not_written, turn_done, turn_again, left_more, left_few, turn_not_read, turn_read}
 use Rattle.lister.proofs.inputs.list_blocks.Statement.{statement}
 use Rattle.lister.proofs.inputs.list_blocks.Tie as tie
 
-abbrev invariant-loop : tie.invariant-loop
-invariant-loop feed₀ out₀ words₀ lines₀ s₀ input₀ filled₀ output₀ turns₀ feed out words lines s input filled output turns =
-    ((limits : Limits) → s₀.book ≡ bookFor limits (get_or feed₀ 0 0) → Looping limits feed words s input filled output turns)
+abbrev invariant_loop : tie.invariant_loop
+invariant_loop feed₀ out₀ words₀ lines₀ s₀ input₀ filled₀ output₀ turns₀ feed out words lines s input filled output turns =
+    ((limits : Limits) → s₀.book ≡ book_for limits (get_or feed₀ 0 0) → Looping limits feed words s input filled output turns)
     × (turns ≤ 18446744073709551615)
 
-abbrev decreases-loop : tie.decreases-loop
-decreases-loop feed₀ out₀ words₀ lines₀ s₀ input₀ filled₀ output₀ turns₀ feed out words lines s input filled output turns =
+abbrev decreases_loop : tie.decreases_loop
+decreases_loop feed₀ out₀ words₀ lines₀ s₀ input₀ filled₀ output₀ turns₀ feed out words lines s input filled output turns =
     18446744073709551615 - turns
 
-element-copy-out-first-book : tie.Need-element-copy-out-first-book invariant-loop decreases-loop
-element-copy-out-first-book c = search rules
+element_copy_out_first_book : tie.Need-element-copy-out-first-book invariant_loop decreases_loop
+element_copy_out_first_book c = search rules
 
-first-book-requires : tie.Need-first-book-requires invariant-loop decreases-loop
-first-book-requires c κs = search rules
+first_book_requires : tie.Need-first-book-requires invariant_loop decreases_loop
+first_book_requires c κs = search rules
 
-at-first-requires : tie.Need-at-first-requires invariant-loop decreases-loop
-at-first-requires c κs = search rules
+at_first_requires : tie.Need-at-first-requires invariant_loop decreases_loop
+at_first_requires c κs = search rules
 
-loop-holds : tie.Need-loop-init invariant-loop decreases-loop
-loop-holds c = (λ limits e. loop-begins limits _ c.before.at_first.ensures e c.before.before.before.before.requires, omega arith)
+loop_holds : tie.Need-loop-init invariant_loop decreases_loop
+loop_holds c = (λ limits e. loop_begins limits _ c.before.at_first.ensures e c.before.before.before.before.requires, omega arith)
 
 -- the listing goes on in the book of the limits that it was called with
-going : (c : tie.At-loop invariant-loop decreases-loop) → let l = c.loop in Looping c.before.before.before.before.before.args.limits l.feed l.words l.s l.input l.filled l.output l.turns
-going c = c.loop.invariant.0 _ (ap (λ (x : Standing). x.book) c.before.before.at_first.ensures ∙ c.before.before.before.first-book.ensures)
+going : (c : tie.At-loop invariant_loop decreases_loop) → let l = c.loop in Looping c.before.before.before.before.before.args.limits l.feed l.words l.s l.input l.filled l.output l.turns
+going c = c.loop.invariant.0 _ (ap (λ (x : Standing). x.book) c.before.before.at_first.ensures ∙ c.before.before.before.first_book.ensures)
 
-add-turns : tie.Need-overflow-add-turns invariant-loop decreases-loop
-add-turns c = search rules
+add_turns : tie.Need-overflow-add-turns invariant_loop decreases_loop
+add_turns c = search rules
 
-has-ended-requires : tie.Need-has-ended-requires invariant-loop decreases-loop
-has-ended-requires c κs = search rules
+has_ended_requires : tie.Need-has-ended-requires invariant_loop decreases_loop
+has_ended_requires c κs = search rules
 
-part-requires : tie.Need-part-requires invariant-loop decreases-loop
-part-requires c κs = (omega arith, (going c.before.before.before.before).there)
+part_requires : tie.Need-part-requires invariant_loop decreases_loop
+part_requires c κs = (omega arith, (going c.before.before.before.before).there)
 
-list-block-requires : tie.Need-list-block-requires invariant-loop decreases-loop
-list-block-requires c κs = ready-part (going c.before.before.before.before.before.before.before.before) c.before.before.before.part.ensures
+list_block_requires : tie.Need-list-block-requires invariant_loop decreases_loop
+list_block_requires c κs = ready_part (going c.before.before.before.before.before.before.before.before) c.before.before.before.part.ensures
 
-write-out-requires : tie.Need-write-out-requires invariant-loop decreases-loop
-write-out-requires c κs =
-    let n : length c.before.before.list-block.new.1.1.1.0 ≡ 262144 = search rules in
-    ((going c.before.before.before.before.before.before.before.before.before.before.before).written, omega (arith, n, c.before.before.list-block.ensures.wrote.room))
+write_out_requires : tie.Need-write-out-requires invariant_loop decreases_loop
+write_out_requires c κs =
+    let n : length c.before.before.list_block.new.1.1.1.0 ≡ 262144 = search rules in
+    ((going c.before.before.before.before.before.before.before.before.before.before.before).written, omega (arith, n, c.before.before.list_block.ensures.wrote.room))
 
 -- a block was listed, and what was put handed over, by a listing that goes on in a book of any limits ..
-after-in : {limits : Limits} (c : tie.After-write-out invariant-loop decreases-loop)
+after_in : {limits : Limits} (c : tie.After-write-out invariant_loop decreases_loop)
     → let l = c.before.before.before.before.before.before.before.before.before.before.before.before.loop in
     Looping limits l.feed l.words l.s l.input l.filled l.output l.turns
-    → Turned limits l.feed c.before.before.before.list-block.new.1.1.1.1.0 c.before.before.before.list-block.result l.input l.filled l.turns c.write-out.result
-after-in c g = turned _ g c.before.before.before.before.before.before.before.part.ensures (rw c.before.before.before.before.before.before.before.before.before.before.has_ended.ensures at c.before.before.before.list-block.ensures) c.write-out.ensures
+    → Turned limits l.feed c.before.before.before.list_block.new.1.1.1.1.0 c.before.before.before.list_block.result l.input l.filled l.turns c.write_out.result
+after_in c g = turned _ g c.before.before.before.before.before.before.before.part.ensures (rw c.before.before.before.before.before.before.before.before.before.before.has_ended.ensures at c.before.before.before.list_block.ensures) c.write_out.ensures
 
 -- .. and so in those of the call
-after : (c : tie.After-write-out invariant-loop decreases-loop)
+after : (c : tie.After-write-out invariant_loop decreases_loop)
     → let l = c.before.before.before.before.before.before.before.before.before.before.before.before.loop in
-    Turned c.before.before.before.before.before.before.before.before.before.before.before.before.before.before.before.before.before.args.limits l.feed c.before.before.before.list-block.new.1.1.1.1.0 c.before.before.before.list-block.result l.input l.filled l.turns c.write-out.result
-after c = after-in c (going c.before.before.before.before.before.before.before.before.before.before.before.before)
+    Turned c.before.before.before.before.before.before.before.before.before.before.before.before.before.before.before.before.before.args.limits l.feed c.before.before.before.list_block.new.1.1.1.1.0 c.before.before.before.list_block.result l.input l.filled l.turns c.write_out.result
+after c = after_in c (going c.before.before.before.before.before.before.before.before.before.before.before.before)
 
-is-written-requires : tie.Need-is-written-requires invariant-loop decreases-loop
-is-written-requires c κs = search rules
+is_written_requires : tie.Need-is-written-requires invariant_loop decreases_loop
+is_written_requires c κs = search rules
 
-ended-by-requires : tie.Need-ended-by-requires invariant-loop decreases-loop
-ended-by-requires c κs = search rules
+ended_by_requires : tie.Need-ended-by-requires invariant_loop decreases_loop
+ended_by_requires c κs = search rules
 
-returns : tie.Need-returns invariant-loop decreases-loop
-returns c = subst (Session _) (sym c.Ended-by.ensures) (turn-not-written (after c.before.before.before) (sym c.before.before.is-written.ensures ∙ not-true _ c.before.if1.true))
+returns : tie.Need-returns invariant_loop decreases_loop
+returns c = subst (Session _) (sym c.Ended-by.ensures) (turn_not_written (after c.before.before.before) (sym c.before.before.is_written.ensures ∙ not-true _ c.before.if1.true))
 
 -- and all of it was written
-written : (c : tie.Else1 invariant-loop decreases-loop) → c.before.before.write-out.result.all ≡ true
-written c = sym c.before.is-written.ensures ∙ not-false _ c.if1.false
+written : (c : tie.Else1 invariant_loop decreases_loop) → c.before.before.write_out.result.all ≡ true
+written c = sym c.before.is_written.ensures ∙ not-false _ c.if1.false
 
-enum_told : tie.Need-enum-told invariant-loop decreases-loop
+enum_told : tie.Need-enum-told invariant_loop decreases_loop
 enum_told c = search rules
 
-loop-less : tie.Need-loop-smaller invariant-loop decreases-loop
-loop-less c = omega (arith, c.before.before.before.before.before.before.before.before.before.before.before.before.before.before.before.loop-test.true)
+loop_less : tie.Need-loop-smaller invariant_loop decreases_loop
+loop_less c = omega (arith, c.before.before.before.before.before.before.before.before.before.before.before.before.before.before.before.loop_test.true)
 
-loop-again : tie.Need-loop-preserved invariant-loop decreases-loop
-loop-again c = (λ limits e. turn-again (after-in c.before.before.before.before (c.before.before.before.before.before.before.before.before.before.before.before.before.before.before.before.before.loop.invariant.0 limits e)) c.enum_told.given.1 (written c.before.before), omega (arith, c.before.before.before.before.before.before.before.before.before.before.before.before.before.before.before.loop-test.true))
+loop_again : tie.Need-loop-preserved invariant_loop decreases_loop
+loop_again c = (λ limits e. turn_again (after_in c.before.before.before.before (c.before.before.before.before.before.before.before.before.before.before.before.before.before.before.before.before.loop.invariant.0 limits e)) c.enum_told.given.1 (written c.before.before), omega (arith, c.before.before.before.before.before.before.before.before.before.before.before.before.before.before.before.loop_test.true))
 
-enum-told-2 : tie.Need-enum-told-2 invariant-loop decreases-loop
-enum-told-2 c = search rules
+enum_told_2 : tie.Need-enum-told-2 invariant_loop decreases_loop
+enum_told_2 c = search rules
 
-keep-requires : tie.Need-keep-requires invariant-loop decreases-loop
-keep-requires c κs = (going c.before.before.before.before.before.before.before.before.before.before.before.before.before.before.before.before.before).there
+keep_requires : tie.Need-keep-requires invariant_loop decreases_loop
+keep_requires c κs = (going c.before.before.before.before.before.before.before.before.before.before.before.before.before.before.before.before.before).there
 
-read-more-requires : tie.Need-read-more-requires invariant-loop decreases-loop
-read-more-requires c κs =
+read_more_requires : tie.Need-read-more-requires invariant_loop decreases_loop
+read_more_requires c κs =
     let k = c.before.keep in
     let n : length k.new.0 ≡ 65536 = search rules in
-    (left-more (after c.before.before.before.before.before.before.before) c.before.before.before.enum-told2.given.1 (written c.before.before.before.before.before), omega (arith, n, k.ensures.0, left-few (after c.before.before.before.before.before.before.before) c.before.before.before.enum-told2.given.1 (written c.before.before.before.before.before)))
+    (left_more (after c.before.before.before.before.before.before.before) c.before.before.before.enum_told2.given.1 (written c.before.before.before.before.before), omega (arith, n, k.ensures.0, left_few (after c.before.before.before.before.before.before.before) c.before.before.before.enum_told2.given.1 (written c.before.before.before.before.before)))
 
-has-failed-requires : tie.Need-has-failed-requires invariant-loop decreases-loop
-has-failed-requires c κs = search rules
+has_failed_requires : tie.Need-has-failed-requires invariant_loop decreases_loop
+has_failed_requires c κs = search rules
 
-ended-by-requires-2 : tie.Need-ended-by-requires-2 invariant-loop decreases-loop
-ended-by-requires-2 c κs = search rules
+ended_by_requires_2 : tie.Need-ended-by-requires-2 invariant_loop decreases_loop
+ended_by_requires_2 c κs = search rules
 
-returns-2 : tie.Need-returns-2 invariant-loop decreases-loop
-returns-2 c = subst (Session _) (sym c.ended-by2.ensures) (turn-not-read (after c.before.before.before.before.before.before.before.before.before.before.before.before) c.before.before.before.before.before.before.before.before.enum-told2.given.1 (written c.before.before.before.before.before.before.before.before.before.before) c.before.before.before.before.before.before.keep.ensures c.before.before.before.before.read_more.ensures (sym c.before.before.has-failed.ensures ∙ c.before.if2.true))
+returns_2 : tie.Need-returns-2 invariant_loop decreases_loop
+returns_2 c = subst (Session _) (sym c.ended_by2.ensures) (turn_not_read (after c.before.before.before.before.before.before.before.before.before.before.before.before) c.before.before.before.before.before.before.before.before.enum_told2.given.1 (written c.before.before.before.before.before.before.before.before.before.before) c.before.before.before.before.before.before.keep.ensures c.before.before.before.before.read_more.ensures (sym c.before.before.has_failed.ensures ∙ c.before.if2.true))
 
-loop-less-2 : tie.Need-loop-smaller-2 invariant-loop decreases-loop
-loop-less-2 c = omega (arith, c.before.before.before.before.before.before.before.before.before.before.before.before.before.before.before.before.before.before.before.before.before.before.loop-test.true)
+loop_less_2 : tie.Need-loop-smaller-2 invariant_loop decreases_loop
+loop_less_2 c = omega (arith, c.before.before.before.before.before.before.before.before.before.before.before.before.before.before.before.before.before.before.before.before.before.before.loop_test.true)
 
-loop-again-2 : tie.Need-loop-preserved-2 invariant-loop decreases-loop
-loop-again-2 c = (
-  λ limits e. turn-read (after-in c.before.before.before.before.before.before.before.before.before.before.before (c.before.before.before.before.before.before.before.before.before.before.before.before.before.before.before.before.before.before.before.before.before.before.before.loop.invariant.0 limits e)) c.before.before.before.before.before.before.before.enum-told2.given.1 (written c.before.before.before.before.before.before.before.before.before) c.before.before.before.before.before.keep.ensures c.before.before.before.read_more.ensures (sym c.before.has-failed.ensures ∙ c.if2.false),
-  omega (arith, c.before.before.before.before.before.before.before.before.before.before.before.before.before.before.before.before.before.before.before.before.before.before.loop-test.true),
+loop_again_2 : tie.Need-loop-preserved-2 invariant_loop decreases_loop
+loop_again_2 c = (
+  λ limits e. turn_read (after_in c.before.before.before.before.before.before.before.before.before.before.before (c.before.before.before.before.before.before.before.before.before.before.before.before.before.before.before.before.before.before.before.before.before.before.before.loop.invariant.0 limits e)) c.before.before.before.before.before.before.before.enum_told2.given.1 (written c.before.before.before.before.before.before.before.before.before) c.before.before.before.before.before.keep.ensures c.before.before.before.read_more.ensures (sym c.before.has_failed.ensures ∙ c.if2.false),
+  omega (arith, c.before.before.before.before.before.before.before.before.before.before.before.before.before.before.before.before.before.before.before.before.before.before.loop_test.true),
 )
 
-enum-told-3 : tie.Need-enum-told-3 invariant-loop decreases-loop
-enum-told-3 c = search rules
+enum_told_3 : tie.Need-enum-told-3 invariant_loop decreases_loop
+enum_told_3 c = search rules
 
-why-ended-requires : tie.Need-why-ended-requires invariant-loop decreases-loop
-why-ended-requires c κs = search rules
+why_ended_requires : tie.Need-why-ended-requires invariant_loop decreases_loop
+why_ended_requires c κs = search rules
 
-ended-by-requires-3 : tie.Need-ended-by-requires-3 invariant-loop decreases-loop
-ended-by-requires-3 c κs = search rules
+ended_by_requires_3 : tie.Need-ended-by-requires-3 invariant_loop decreases_loop
+ended_by_requires_3 c κs = search rules
 
-returns-3 : tie.Need-returns-3 invariant-loop decreases-loop
-returns-3 c = subst (Session _) (sym c.ended-by3.ensures) (rw c.before.why-ended.ensures (turn-done (after c.before.before.before.before.before.before) c.before.before.enum-told3.given.1 (written c.before.before.before.before)))
+returns_3 : tie.Need-returns-3 invariant_loop decreases_loop
+returns_3 c = subst (Session _) (sym c.ended_by3.ensures) (rw c.before.why_ended.ensures (turn_done (after c.before.before.before.before.before.before) c.before.before.enum_told3.given.1 (written c.before.before.before.before)))
 
-ended-by-requires-4 : tie.Need-ended-by-requires-4 invariant-loop decreases-loop
-ended-by-requires-4 c κs = search rules
+ended_by_requires_4 : tie.Need-ended-by-requires-4 invariant_loop decreases_loop
+ended_by_requires_4 c κs = search rules
 
-returns-4 : tie.Need-returns-4 invariant-loop decreases-loop
-returns-4 c = subst (Session _) (sym c.ended-by4.ensures) (loop-turns (going c.before.before) (omega (arith, c.before.loop-test.false, c.before.before.loop.invariant.1)))
+returns_4 : tie.Need-returns-4 invariant_loop decreases_loop
+returns_4 c = subst (Session _) (sym c.ended_by4.ensures) (loop_turns (going c.before.before) (omega (arith, c.before.loop_test.false, c.before.before.loop.invariant.1)))
 
-pub list-blocks-spec : {M : Type 1} → statement M
-list-blocks-spec =
+pub list_blocks_spec : {M : Type 1} → statement M
+list_blocks_spec =
     tie.close
     (tie.spec
-    invariant-loop
-    decreases-loop
-    element-copy-out-first-book
-    first-book-requires
-    at-first-requires
-    loop-holds
-    add-turns
-    has-ended-requires
-    part-requires
-    list-block-requires
-    write-out-requires
-    is-written-requires
-    ended-by-requires
+    invariant_loop
+    decreases_loop
+    element_copy_out_first_book
+    first_book_requires
+    at_first_requires
+    loop_holds
+    add_turns
+    has_ended_requires
+    part_requires
+    list_block_requires
+    write_out_requires
+    is_written_requires
+    ended_by_requires
     returns
     enum_told
-    loop-less
-    loop-again
-    enum-told-2
-    keep-requires
-    read-more-requires
-    has-failed-requires
-    ended-by-requires-2
-    returns-2
-    loop-less-2
-    loop-again-2
-    enum-told-3
-    why-ended-requires
-    ended-by-requires-3
-    returns-3
-    ended-by-requires-4
-    returns-4)
+    loop_less
+    loop_again
+    enum_told_2
+    keep_requires
+    read_more_requires
+    has_failed_requires
+    ended_by_requires_2
+    returns_2
+    loop_less_2
+    loop_again_2
+    enum_told_3
+    why_ended_requires
+    ended_by_requires_3
+    returns_3
+    ended_by_requires_4
+    returns_4)

@@ -3,47 +3,47 @@ use Prim.Native.Nat.{◌+◌, ◌-◌, min}
 use mathlib.Core.Path.{◌≡◌, sym, ◌∙◌}
 use native.Mathlib.Omega.{arith}
 use Rattle.exact.specs.Rows.{at, cells}
-use Rattle.exact.proofs.RowLaws.{cells-both, cells-cong, holds, holds-own}
-use Rattle.settlement.specs.Month.{month, owingTo}
-use Rattle.settlement.specs.Notice.{payable, fullClaim}
-use Rattle.settlement.specs.Claims.{unpaid, setOff, arrears, claim}
-use Rattle.settlement.proofs.MonthLaws.{by-bound, to-bound}
-use Rattle.settlement.proofs.NoticeLaws.{payable-le}
-use Rattle.settlement.proofs.ClaimLaws.{set-off-full}
+use Rattle.exact.proofs.RowLaws.{cells_both, cells_cong, holds, holds_own}
+use Rattle.settlement.specs.Month.{month, owing_to}
+use Rattle.settlement.specs.Notice.{payable, full_claim}
+use Rattle.settlement.specs.Claims.{unpaid, set_off, arrears, claim}
+use Rattle.settlement.proofs.MonthLaws.{by_bound, to_bound}
+use Rattle.settlement.proofs.NoticeLaws.{payable_le}
+use Rattle.settlement.proofs.ClaimLaws.{set_off_full}
 use Rattle.settlement.proofs.claims.claim.Statement.{statement}
 use Rattle.settlement.proofs.claims.claim.Tie as tie
 
-over-tiers-requires : tie.Need-over-tiers-requires
-over-tiers-requires c κs =
+over_tiers_requires : tie.Need-over-tiers-requires
+over_tiers_requires c κs =
     let x = c.args in
     let m = month x.n x.by x.to in
-    (c.requires.0.few, λ i h. omega (arith, to-bound m c.requires.0 i h))
+    (c.requires.0.few, λ i h. omega (arith, to_bound m c.requires.0 i h))
 
-sums-requires : tie.Need-sums-requires
-sums-requires c κs =
+sums_requires : tie.Need-sums-requires
+sums_requires c κs =
     let s = c.before in
     let m = month s.args.n s.args.by s.args.to in (
       s.requires.0.few,
-      λ i h. omega (arith, (holds (owingTo m) _ c.over-tiers.ensures).reads i h, (holds _ _ s.requires.1.row).reads i h, to-bound m s.requires.0 i h, by-bound m s.requires.0 i h, payable-le m s.requires.1.retained s.requires.1.sound i),
+      λ i h. omega (arith, (holds (owing_to m) _ c.over_tiers.ensures).reads i h, (holds _ _ s.requires.1.row).reads i h, to_bound m s.requires.0 i h, by_bound m s.requires.0 i h, payable_le m s.requires.1.retained s.requires.1.sound i),
     )
 
-excesses-requires : tie.Need-excesses-requires
-excesses-requires c κs = c.before.before.requires.0.few
+excesses_requires : tie.Need-excesses-requires
+excesses_requires c κs = c.before.before.requires.0.few
 
-excesses-requires-2 : tie.Need-excesses-requires-2
-excesses-requires-2 c κs = c.before.before.before.requires.0.few
+excesses_requires_2 : tie.Need-excesses-requires-2
+excesses_requires_2 c κs = c.before.before.before.requires.0.few
 
-minima-requires : tie.Need-minima-requires
-minima-requires c κs = c.before.before.before.before.requires.0.few
+minima_requires : tie.Need-minima-requires
+minima_requires c κs = c.before.before.before.before.requires.0.few
 
-excesses-requires-3 : tie.Need-excesses-requires-3
-excesses-requires-3 c κs = c.before.before.before.before.before.requires.0.few
+excesses_requires_3 : tie.Need-excesses-requires-3
+excesses_requires_3 c κs = c.before.before.before.before.before.requires.0.few
 
-excesses-requires-4 : tie.Need-excesses-requires-4
-excesses-requires-4 c κs = c.before.before.before.before.before.before.requires.0.few
+excesses_requires_4 : tie.Need-excesses-requires-4
+excesses_requires_4 c κs = c.before.before.before.before.before.before.requires.0.few
 
 returns : tie.Need-returns
-unfolding fullClaim unpaid arrears claim
+unfolding full_claim unpaid arrears claim
 returns c d =
     let kept = d.retained in
     let a = c.before.before.before.before.before.before in
@@ -51,29 +51,29 @@ returns c d =
     let n = x.n in
     let m = month n x.by x.to in
     let r = at x.received in
-    let owing = a.over-tiers.ensures in
-    let covered = c.before.before.before.before.before.sums.ensures ∙ cells-both ◌+◌ (holds (owingTo m) n owing) (holds (payable m kept) n d.row) in
-    let full : c.before.before.before.before.excesses.result ≡ cells (fullClaim m kept) n =
-    c.before.before.before.before.excesses.ensures ∙ cells-both ◌-◌ (holds _ n covered) (holds-own x.by n) in
+    let owing = a.over_tiers.ensures in
+    let covered = c.before.before.before.before.before.sums.ensures ∙ cells_both ◌+◌ (holds (owing_to m) n owing) (holds (payable m kept) n d.row) in
+    let full : c.before.before.before.before.excesses.result ≡ cells (full_claim m kept) n =
+    c.before.before.before.before.excesses.ensures ∙ cells_both ◌-◌ (holds _ n covered) (holds_own x.by n) in
     let short : c.before.before.before.excesses2.result ≡ cells (unpaid m kept r) n =
-    c.before.before.before.excesses2.ensures ∙ cells-both ◌-◌ (holds (payable m kept) n d.row) (holds-own x.received n) in
-    let off : c.before.before.minima.result ≡ cells (setOff m kept r) n =
-    c.before.before.minima.ensures ∙ cells-both min (holds _ n short) (holds _ n full) ∙ cells-cong _ _ n (λ i _. sym (set-off-full m kept r d.sound i)) in
+    c.before.before.before.excesses2.ensures ∙ cells_both ◌-◌ (holds (payable m kept) n d.row) (holds_own x.received n) in
+    let off : c.before.before.minima.result ≡ cells (set_off m kept r) n =
+    c.before.before.minima.ensures ∙ cells_both min (holds _ n short) (holds _ n full) ∙ cells_cong _ _ n (λ i _. sym (set_off_full m kept r d.sound i)) in
     let behind : c.before.excesses3.result ≡ cells (arrears m kept r) n =
-    c.before.excesses3.ensures ∙ cells-both ◌-◌ (holds _ n short) (holds _ n off) in
+    c.before.excesses3.ensures ∙ cells_both ◌-◌ (holds _ n short) (holds _ n off) in
     let claims : c.excesses4.result ≡ cells (claim m kept r) n =
-    c.excesses4.ensures ∙ cells-both ◌-◌ (holds _ n full) (holds _ n off) in
+    c.excesses4.ensures ∙ cells_both ◌-◌ (holds _ n full) (holds _ n off) in
     λ z. record { owing = owing z; claims = claims z; arrears = behind z }
 
-pub claim-spec : {M : Type 1} → statement M
-claim-spec =
+pub claim_spec : {M : Type 1} → statement M
+claim_spec =
     tie.close
     (tie.spec
-    over-tiers-requires
-    sums-requires
-    excesses-requires
-    excesses-requires-2
-    minima-requires
-    excesses-requires-3
-    excesses-requires-4
+    over_tiers_requires
+    sums_requires
+    excesses_requires
+    excesses_requires_2
+    minima_requires
+    excesses_requires_3
+    excesses_requires_4
     returns)

@@ -6,14 +6,14 @@ use lib.Dec.{eqb}
 use mathlib.Core.Path.{◌≡◌, ap, ap₂, ◌∙◌}
 use native.Mathlib.Omega.{arith}
 use Rattle.exact.specs.Rows.{at, sum, cells}
-use Rattle.exact.proofs.RowLaws.{Holds, holds, sum-holds}
+use Rattle.exact.proofs.RowLaws.{Holds, holds, sum_holds}
 use Rattle.settlement.specs.Month.{Month, month}
 use Rattle.settlement.specs.Notice.{Due}
-use Rattle.settlement.specs.Rounds.{negativesAtZero}
-use Rattle.settlement.specs.Settling.{revised, scaledAbove, scaledBelow, deficit, spent, rounds, paid}
+use Rattle.settlement.specs.Rounds.{negatives_at_zero}
+use Rattle.settlement.specs.Settling.{revised, scaled_above, scaled_below, deficit, spent, rounds, paid}
 use Rattle.settlement.specs.declared.scaling.Scaled.{Scaled}
-use Rattle.settlement.proofs.RoundLaws.{Alike, holds-alike, spread-alike}
-use Rattle.settlement.proofs.SettleLaws.{scaled-le-revised, negatives-set-to-zero, revised-total-le, deficit-le}
+use Rattle.settlement.proofs.RoundLaws.{Alike, holds_alike, spread_alike}
+use Rattle.settlement.proofs.SettleLaws.{scaled_le_revised, negatives_set_to_zero, revised_total_le, deficit_le}
 use Rattle.settlement.proofs.settling.settle.Statement.{statement}
 use Rattle.settlement.proofs.settling.settle.Tie as tie
 
@@ -28,39 +28,39 @@ r c = at c.before.args.received
 
 -- what the steps before the rounds handed on, by any retention that the payable row can have come from
 module _ (c : tie.After-scale) (d : Due (m c) c.before.args.payables) where
-  revised-held : Holds c.scale.result.revised (revised (m c) d.retained (r c)) (n c)
-  revised-held = holds _ _ (ap (λ (k : Scaled). k.revised) (c.scale.ensures d))
+  revised_held : Holds c.scale.result.revised (revised (m c) d.retained (r c)) (n c)
+  revised_held = holds _ _ (ap (λ (k : Scaled). k.revised) (c.scale.ensures d))
 
-  below-held : Holds c.scale.result.below (scaledBelow (m c) d.retained (r c)) (n c)
-  below-held = holds _ _ (ap (λ (k : Scaled). k.below) (c.scale.ensures d))
+  below_held : Holds c.scale.result.below (scaled_below (m c) d.retained (r c)) (n c)
+  below_held = holds _ _ (ap (λ (k : Scaled). k.below) (c.scale.ensures d))
 
   below_total : sum (at c.scale.result.below) (n c) ≡ deficit (m c) d.retained (r c)
   unfolding deficit
-  below_total = sum-holds below-held
+  below_total = sum_holds below_held
 
-  above-row : c.scale.result.above ≡ cells (scaledAbove (m c) d.retained (r c)) (n c)
-  above-row = ap (λ (k : Scaled). k.above) (c.scale.ensures d)
+  above_row : c.scale.result.above ≡ cells (scaled_above (m c) d.retained (r c)) (n c)
+  above_row = ap (λ (k : Scaled). k.above) (c.scale.ensures d)
 
   -- the balances that the rounds start from
-  balance-at : (i : ℕ) → i < n c → negativesAtZero (at c.scale.result.above) (at c.scale.result.below) i ≡ scaledAbove (m c) d.retained (r c) i
-  unfolding negativesAtZero
-  balance-at i h =
-      ap₂ (λ (x y : ℕ). cond (eqb y 0) x 0) ((holds _ _ above-row).reads i h) (below-held.reads i h)
-      ∙ negatives-set-to-zero (m c) d.retained (r c) i
+  balance_at : (i : ℕ) → i < n c → negatives_at_zero (at c.scale.result.above) (at c.scale.result.below) i ≡ scaled_above (m c) d.retained (r c) i
+  unfolding negatives_at_zero
+  balance_at i h =
+      ap₂ (λ (x y : ℕ). cond (eqb y 0) x 0) ((holds _ _ above_row).reads i h) (below_held.reads i h)
+      ∙ negatives_set_to_zero (m c) d.retained (r c) i
 
-scale-requires : tie.Need-scale-requires
-scale-requires c κs = search rules
+scale_requires : tie.Need-scale-requires
+scale_requires c κs = search rules
 
-spread-requires : tie.Need-spread-requires
-spread-requires c κs =
+spread_requires : tie.Need-spread-requires
+spread_requires c κs =
     let s = c.before.before.before in
     let pre = s.before.requires.0 in
     let d = s.before.requires.1 in
     record {
       few = pre.few;
-      backed = λ i h. omega (arith, balance-at s d i h, (revised-held s d).reads i h, scaled-le-revised (m s) d.retained (r s) d.sound i);
-      revised-total = omega (arith, sum-holds (revised-held s d), revised-total-le (m s) d.retained (r s) d.sound, pre.to-total);
-      deficit-bound = omega (arith, below_total s d, deficit-le (m s) d.retained (r s) d.sound, pre.to-total);
+      backed = λ i h. omega (arith, balance_at s d i h, (revised_held s d).reads i h, scaled_le_revised (m s) d.retained (r s) d.sound i);
+      revised_total = omega (arith, sum_holds (revised_held s d), revised_total_le (m s) d.retained (r s) d.sound, pre.to_total);
+      deficit_bound = omega (arith, below_total s d, deficit_le (m s) d.retained (r s) d.sound, pre.to_total);
     }
 
 returns : tie.Need-returns
@@ -69,9 +69,9 @@ returns c due =
     let t = c.before.before.before in
     let s = t.before.before.before.before in
     let e = s.scale.ensures due in
-    let alike : Alike (n s) _ (spent (m s) due.retained (r s)) = spread-alike (n s) _ _ (revised-held s due).reads _ _ _ (balance-at s due) in
-    let left = holds-alike alike (rw (below_total s due) at t.spread.ensures) in
+    let alike : Alike (n s) _ (spent (m s) due.retained (r s)) = spread_alike (n s) _ _ (revised_held s due).reads _ _ _ (balance_at s due) in
+    let left = holds_alike alike (rw (below_total s due) at t.spread.ensures) in
     λ z. record { rounds = left.0 z; claims = (e z).claims; arrears = (e z).arrears; paid = left.1 z }
 
-pub settle-spec : {M : Type 1} → statement M
-settle-spec = tie.close (tie.spec scale-requires spread-requires returns)
+pub settle_spec : {M : Type 1} → statement M
+settle_spec = tie.close (tie.spec scale_requires spread_requires returns)

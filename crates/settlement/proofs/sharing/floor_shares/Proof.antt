@@ -3,78 +3,78 @@ use Prim.Native.Nat.{◌-◌, ◌≤◌}
 use mathlib.Core.Path.{◌≡◌, ap, ◌∙◌}
 use native.Mathlib.Omega.{arith}
 use Rattle.exact.specs.Rows.{at, cells}
-use Rattle.exact.proofs.RowLaws.{cells-none, cells-more, sum-term}
-use Rattle.settlement.specs.Sharing.{floorShare, remainder}
+use Rattle.exact.proofs.RowLaws.{cells_none, cells_more, sum_term}
+use Rattle.settlement.specs.Sharing.{floor_share, remainder}
 use Rattle.settlement.proofs.sharing.floor_shares.Statement.{statement}
 use Rattle.settlement.proofs.sharing.floor_shares.Tie as tie
 
-abbrev invariant-loop : tie.invariant-loop
-invariant-loop amount whole n weights cents₀ remainders₀ i₀ cents remainders i = (i ≤ n) × (cents ≡ cells (floorShare (at weights) amount whole) i) × (remainders ≡ cells (remainder (at weights) amount whole) i)
+abbrev invariant_loop : tie.invariant_loop
+invariant_loop amount whole n weights cents₀ remainders₀ i₀ cents remainders i = (i ≤ n) × (cents ≡ cells (floor_share (at weights) amount whole) i) × (remainders ≡ cells (remainder (at weights) amount whole) i)
 
-abbrev decreases-loop : tie.decreases-loop
-decreases-loop amount whole n weights cents₀ remainders₀ i₀ cents remainders i = n - i
+abbrev decreases_loop : tie.decreases_loop
+decreases_loop amount whole n weights cents₀ remainders₀ i₀ cents remainders i = n - i
 
-loop-holds : tie.Need-loop-init invariant-loop decreases-loop
-loop-holds c = (search rules, cells-none _, cells-none _)
+loop_holds : tie.Need-loop-init invariant_loop decreases_loop
+loop_holds c = (search rules, cells_none _, cells_none _)
 
-mul-proportion : tie.Need-overflow-mul-proportion invariant-loop decreases-loop
-mul-proportion c = search rules
+mul_proportion : tie.Need-overflow-mul-proportion invariant_loop decreases_loop
+mul_proportion c = search rules
 
-array-read-proportion : tie.Need-array-read-proportion invariant-loop decreases-loop
-array-read-proportion c = search rules
+array_read_proportion : tie.Need-array-read-proportion invariant_loop decreases_loop
+array_read_proportion c = search rules
 
-proportion-requires : tie.Need-proportion-requires invariant-loop decreases-loop
-proportion-requires c κs =
+proportion_requires : tie.Need-proportion-requires invariant_loop decreases_loop
+proportion_requires c κs =
     let s = c.before.before in
-    omega (arith, s.requires.2, sum-term (at s.args.t1) s.args.n c.before.loop.i (omega arith))
+    omega (arith, s.requires.2, sum_term (at s.args.t1) s.args.n c.before.loop.i (omega arith))
 
-mul-cents : tie.Need-overflow-mul-cents invariant-loop decreases-loop
-mul-cents c = search rules
+mul_cents : tie.Need-overflow-mul-cents invariant_loop decreases_loop
+mul_cents c = search rules
 
-array-write-cents : tie.Need-array-write-cents invariant-loop decreases-loop
-array-write-cents c = search rules
+array_write_cents : tie.Need-array-write-cents invariant_loop decreases_loop
+array_write_cents c = search rules
 
-mul-remainders : tie.Need-overflow-mul-remainders invariant-loop decreases-loop
-mul-remainders c = search rules
+mul_remainders : tie.Need-overflow-mul-remainders invariant_loop decreases_loop
+mul_remainders c = search rules
 
-array-write-remainders : tie.Need-array-write-remainders invariant-loop decreases-loop
-array-write-remainders c = search rules
+array_write_remainders : tie.Need-array-write-remainders invariant_loop decreases_loop
+array_write_remainders c = search rules
 
-add-i : tie.Need-overflow-add-i invariant-loop decreases-loop
-add-i c = search rules
+add_i : tie.Need-overflow-add-i invariant_loop decreases_loop
+add_i c = search rules
 
-loop-less : tie.Need-loop-smaller invariant-loop decreases-loop
-loop-less c = search rules
+loop_less : tie.Need-loop-smaller invariant_loop decreases_loop
+loop_less c = search rules
 
-loop-again : tie.Need-loop-preserved invariant-loop decreases-loop
-unfolding floorShare remainder
-loop-again c =
+loop_again : tie.Need-loop-preserved invariant_loop decreases_loop
+unfolding floor_share remainder
+loop_again c =
     let l = c.before.before.loop in (
       search rules,
-      rw (l.invariant.1, c.proportion.ensures.0) (cells-more _ l.i (omega arith)),
-      rw (l.invariant.2, c.proportion.ensures.1) (cells-more _ l.i (omega arith)),
+      rw (l.invariant.1, c.proportion.ensures.0) (cells_more _ l.i (omega arith)),
+      rw (l.invariant.2, c.proportion.ensures.1) (cells_more _ l.i (omega arith)),
     )
 
-returns : tie.Need-returns invariant-loop decreases-loop
+returns : tie.Need-returns invariant_loop decreases_loop
 returns c =
     let l = c.before.loop in
     (l.invariant.1 ∙ ap (cells _) (omega arith), l.invariant.2 ∙ ap (cells _) (omega arith))
 
-pub floor-shares-spec : {M : Type 1} → statement M
-floor-shares-spec =
+pub floor_shares_spec : {M : Type 1} → statement M
+floor_shares_spec =
     tie.close
     (tie.spec
-    invariant-loop
-    decreases-loop
-    loop-holds
-    mul-proportion
-    array-read-proportion
-    proportion-requires
-    mul-cents
-    array-write-cents
-    mul-remainders
-    array-write-remainders
-    add-i
-    loop-less
-    loop-again
+    invariant_loop
+    decreases_loop
+    loop_holds
+    mul_proportion
+    array_read_proportion
+    proportion_requires
+    mul_cents
+    array_write_cents
+    mul_remainders
+    array_write_remainders
+    add_i
+    loop_less
+    loop_again
     returns)

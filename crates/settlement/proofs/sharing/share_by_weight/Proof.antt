@@ -3,39 +3,39 @@ use Prim.Native.Nat.{◌≤◌}
 use mathlib.Core.Path.{◌∙◌}
 use native.Mathlib.Omega.{arith}
 use Rattle.exact.specs.Rows.{at, sum}
-use Rattle.exact.proofs.RowLaws.{sum-term, holds, sum-holds}
-use Rattle.settlement.specs.Sharing.{floorShare, remainder}
-use Rattle.settlement.proofs.SharingLaws.{rest_lt, floors-le, leftover-le, leftover-given, share-given, share-even}
+use Rattle.exact.proofs.RowLaws.{sum_term, holds, sum_holds}
+use Rattle.settlement.specs.Sharing.{floor_share, remainder}
+use Rattle.settlement.proofs.SharingLaws.{rest_lt, floors_le, leftover_le, leftover_given, share_given, share_even}
 use Rattle.settlement.proofs.sharing.share_by_weight.Statement.{statement}
 use Rattle.settlement.proofs.sharing.share_by_weight.Tie as tie
 
-floor-shares-requires : tie.Need-floor-shares-requires
-floor-shares-requires c κs = search rules
+floor_shares_requires : tie.Need-floor-shares-requires
+floor_shares_requires c κs = search rules
 
 -- the shares rounded down come to at most the amount
-floors-within : (c : tie.After-floor-shares) → sum (at c.floor-shares.result.cents) c.before.args.n ≤ c.before.args.amount
-floors-within c =
+floors_within : (c : tie.After-floor-shares) → sum (at c.floor_shares.result.cents) c.before.args.n ≤ c.before.args.amount
+floors_within c =
     let x = c.before.args in
     omega (
       arith,
-      sum-holds (holds (floorShare (at x.weights) x.amount x.whole) x.n c.floor-shares.ensures.0),
-      floors-le (at x.weights) x.amount x.whole x.n c.before.requires.2,
+      sum_holds (holds (floor_share (at x.weights) x.amount x.whole) x.n c.floor_shares.ensures.0),
+      floors_le (at x.weights) x.amount x.whole x.n c.before.requires.2,
     )
 
-total-requires : tie.Need-total-requires
-total-requires c κs = (search rules, omega (arith, floors-within c.before))
+total_requires : tie.Need-total-requires
+total_requires c κs = (search rules, omega (arith, floors_within c.before))
 
-sub-leftover : tie.Need-overflow-sub-leftover
-sub-leftover c = omega (arith, c.total.ensures, floors-within c.before.before)
+sub_leftover : tie.Need-overflow-sub-leftover
+sub_leftover c = omega (arith, c.total.ensures, floors_within c.before.before)
 
 returns : tie.Need-returns
 returns c =
     let f = c.before.before.before in
     let x = f.before.args in
-    share-even (at x.weights) x.amount x.whole x.n _ _ f.floor-shares.ensures.0 f.floor-shares.ensures.1 (omega (arith, c.if1.true, c.before.total.ensures))
+    share_even (at x.weights) x.amount x.whole x.n _ _ f.floor_shares.ensures.0 f.floor_shares.ensures.1 (omega (arith, c.if1.true, c.before.total.ensures))
 
-cut-requires : tie.Need-cut-requires
-cut-requires c κs =
+cut_requires : tie.Need-cut-requires
+cut_requires c κs =
     let f = c.before.before.before.before.before in
     let x = f.before.args in
     let can = f.before.requires.2 in
@@ -44,35 +44,35 @@ cut-requires c κs =
       omega (
         arith,
         c.before.before.before.total.ensures,
-        leftover-given w x.amount x.whole x.n _ _ f.floor-shares.ensures.0 f.floor-shares.ensures.1,
-        leftover-le w x.amount x.whole x.n can,
+        leftover_given w x.amount x.whole x.n _ _ f.floor_shares.ensures.0 f.floor_shares.ensures.1,
+        leftover_le w x.amount x.whole x.n can,
       ),
       can.some,
       f.before.requires.1,
-      λ i h. omega (arith, (holds (remainder w x.amount x.whole) x.n f.floor-shares.ensures.1).reads i h, rest_lt w x.amount x.whole x.n can i),
+      λ i h. omega (arith, (holds (remainder w x.amount x.whole) x.n f.floor_shares.ensures.1).reads i h, rest_lt w x.amount x.whole x.n can i),
     )
 
-with-leftover-requires : tie.Need-with-leftover-requires
-with-leftover-requires c κs =
+with_leftover_requires : tie.Need-with-leftover-requires
+with_leftover_requires c κs =
     let f = c.before.before.before.before.before.before in
-    (f.before.requires.0, c.cut.ensures, λ i h. omega (arith, sum-term (at f.floor-shares.result.cents) f.before.args.n i h, floors-within f, f.before.requires.1, f.before.requires.2.within))
+    (f.before.requires.0, c.cut.ensures, λ i h. omega (arith, sum_term (at f.floor_shares.result.cents) f.before.args.n i h, floors_within f, f.before.requires.1, f.before.requires.2.within))
 
-returns-2 : tie.Need-returns-2
-returns-2 c =
+returns_2 : tie.Need-returns-2
+returns_2 c =
     let f = c.before.before.before.before.before.before.before in
     let x = f.before.args in
     let t = c.before.before.before.before.before.total in
-    c.with-leftover.ensures
-    ∙ rw t.ensures (share-given (at x.weights) x.amount x.whole x.n _ _ f.floor-shares.ensures.0 f.floor-shares.ensures.1)
+    c.with_leftover.ensures
+    ∙ rw t.ensures (share_given (at x.weights) x.amount x.whole x.n _ _ f.floor_shares.ensures.0 f.floor_shares.ensures.1)
 
-pub share-by-weight-spec : {M : Type 1} → statement M
-share-by-weight-spec =
+pub share_by_weight_spec : {M : Type 1} → statement M
+share_by_weight_spec =
     tie.close
     (tie.spec
-    floor-shares-requires
-    total-requires
-    sub-leftover
+    floor_shares_requires
+    total_requires
+    sub_leftover
     returns
-    cut-requires
-    with-leftover-requires
-    returns-2)
+    cut_requires
+    with_leftover_requires
+    returns_2)

@@ -6,14 +6,14 @@ use Rattle.settlement.proofs.spread.loss_of.Tie as tie
 returns : tie.Need-returns
 returns c = search rules
 
-proportion-up-requires : tie.Need-proportion-up-requires
-proportion-up-requires c κs = c.before.requires (pos_of_ne-zero c.if1.false)
+proportion_up_requires : tie.Need-proportion-up-requires
+proportion_up_requires c κs = c.before.requires (pos_of_ne-zero c.if1.false)
 
-smaller-requires : tie.Need-smaller-requires
-smaller-requires c κs = search rules
+smaller_requires : tie.Need-smaller-requires
+smaller_requires c κs = search rules
 
-returns-2 : tie.Need-returns-2
-returns-2 c = search rules
+returns_2 : tie.Need-returns-2
+returns_2 c = search rules
 
-pub loss-of-spec : {M : Type 1} → statement M
-loss-of-spec = tie.close (tie.spec returns proportion-up-requires smaller-requires returns-2)
+pub loss_of_spec : {M : Type 1} → statement M
+loss_of_spec = tie.close (tie.spec returns proportion_up_requires smaller_requires returns_2)

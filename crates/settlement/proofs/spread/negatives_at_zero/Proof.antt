@@ -3,71 +3,71 @@ use Prim.Native.Nat.{◌-◌, ◌≤◌}
 use mathlib.Core.Path.{◌≡◌, ap, ◌∙◌}
 use native.Mathlib.Omega.{arith}
 use Rattle.exact.specs.Rows.{at, cells}
-use Rattle.exact.proofs.RowLaws.{cells-none, cells-more}
-use Rattle.settlement.specs.Rounds.{negativesAtZero}
+use Rattle.exact.proofs.RowLaws.{cells_none, cells_more}
+use Rattle.settlement.specs.Rounds.{negatives_at_zero}
 use Rattle.settlement.proofs.spread.negatives_at_zero.Statement.{statement}
 use Rattle.settlement.proofs.spread.negatives_at_zero.Tie as tie
 
-abbrev invariant-loop : tie.invariant-loop
-invariant-loop n above below out₀ i₀ out i = (i ≤ n) × (out ≡ cells (negativesAtZero (at above) (at below)) i)
+abbrev invariant_loop : tie.invariant_loop
+invariant_loop n above below out₀ i₀ out i = (i ≤ n) × (out ≡ cells (negatives_at_zero (at above) (at below)) i)
 
-abbrev decreases-loop : tie.decreases-loop
-decreases-loop n above below out₀ i₀ out i = n - i
+abbrev decreases_loop : tie.decreases_loop
+decreases_loop n above below out₀ i₀ out i = n - i
 
-loop-holds : tie.Need-loop-init invariant-loop decreases-loop
-loop-holds c = (search rules, cells-none _)
+loop_holds : tie.Need-loop-init invariant_loop decreases_loop
+loop_holds c = (search rules, cells_none _)
 
-mul-unless-negative : tie.Need-overflow-mul-unless-negative invariant-loop decreases-loop
-mul-unless-negative c = search rules
+mul_unless_negative : tie.Need-overflow-mul-unless-negative invariant_loop decreases_loop
+mul_unless_negative c = search rules
 
-array-read-unless-negative : tie.Need-array-read-unless-negative invariant-loop decreases-loop
-array-read-unless-negative c = search rules
+array_read_unless_negative : tie.Need-array-read-unless-negative invariant_loop decreases_loop
+array_read_unless_negative c = search rules
 
-mul-unless-negative-2 : tie.Need-overflow-mul-unless-negative-2 invariant-loop decreases-loop
-mul-unless-negative-2 c = search rules
+mul_unless_negative_2 : tie.Need-overflow-mul-unless-negative-2 invariant_loop decreases_loop
+mul_unless_negative_2 c = search rules
 
-array-read-unless-negative-2 : tie.Need-array-read-unless-negative-2 invariant-loop decreases-loop
-array-read-unless-negative-2 c = search rules
+array_read_unless_negative_2 : tie.Need-array-read-unless-negative-2 invariant_loop decreases_loop
+array_read_unless_negative_2 c = search rules
 
-unless-negative-requires : tie.Need-unless-negative-requires invariant-loop decreases-loop
-unless-negative-requires c κs = search rules
+unless_negative_requires : tie.Need-unless-negative-requires invariant_loop decreases_loop
+unless_negative_requires c κs = search rules
 
-mul-out : tie.Need-overflow-mul-out invariant-loop decreases-loop
-mul-out c = search rules
+mul_out : tie.Need-overflow-mul-out invariant_loop decreases_loop
+mul_out c = search rules
 
-array-write-out : tie.Need-array-write-out invariant-loop decreases-loop
-array-write-out c = search rules
+array_write_out : tie.Need-array-write-out invariant_loop decreases_loop
+array_write_out c = search rules
 
-add-i : tie.Need-overflow-add-i invariant-loop decreases-loop
-add-i c = search rules
+add_i : tie.Need-overflow-add-i invariant_loop decreases_loop
+add_i c = search rules
 
-loop-less : tie.Need-loop-smaller invariant-loop decreases-loop
-loop-less c = search rules
+loop_less : tie.Need-loop-smaller invariant_loop decreases_loop
+loop_less c = search rules
 
-loop-again : tie.Need-loop-preserved invariant-loop decreases-loop
-unfolding negativesAtZero
-loop-again c =
+loop_again : tie.Need-loop-preserved invariant_loop decreases_loop
+unfolding negatives_at_zero
+loop_again c =
     let l = c.before.before.loop in
-    (search rules, rw (l.invariant.1, c.unless-negative.ensures) (cells-more _ l.i (omega arith)))
+    (search rules, rw (l.invariant.1, c.unless_negative.ensures) (cells_more _ l.i (omega arith)))
 
-returns : tie.Need-returns invariant-loop decreases-loop
+returns : tie.Need-returns invariant_loop decreases_loop
 returns c = c.before.loop.invariant.1 ∙ ap (cells _) (omega arith)
 
-pub negatives-at-zero-spec : {M : Type 1} → statement M
-negatives-at-zero-spec =
+pub negatives_at_zero_spec : {M : Type 1} → statement M
+negatives_at_zero_spec =
     tie.close
     (tie.spec
-    invariant-loop
-    decreases-loop
-    loop-holds
-    mul-unless-negative
-    array-read-unless-negative
-    mul-unless-negative-2
-    array-read-unless-negative-2
-    unless-negative-requires
-    mul-out
-    array-write-out
-    add-i
-    loop-less
-    loop-again
+    invariant_loop
+    decreases_loop
+    loop_holds
+    mul_unless_negative
+    array_read_unless_negative
+    mul_unless_negative_2
+    array_read_unless_negative_2
+    unless_negative_requires
+    mul_out
+    array_write_out
+    add_i
+    loop_less
+    loop_again
     returns)

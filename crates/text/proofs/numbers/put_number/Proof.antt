@@ -5,36 +5,36 @@ use mir.Syntax.{w64}
 use lib.ListN.{length, take}
 use borrow.Author.Rules.{rules}
 use Rattle.text.specs.Numbers.{decimal}
-use Rattle.text.proofs.NumberLaws.{decimal-is, decimal-few}
-use Rattle.text.proofs.PutLaws.{puts_then, puts-length}
+use Rattle.text.proofs.NumberLaws.{decimal_is, decimal_few}
+use Rattle.text.proofs.PutLaws.{puts_then, puts_length}
 use Rattle.text.proofs.numbers.put_number.Statement.{statement}
 use Rattle.text.proofs.numbers.put_number.Tie as tie
 
-decimal-requires : tie.Need-decimal-requires
-decimal-requires c κs = search rules
+decimal_requires : tie.Need-decimal-requires
+decimal_requires c κs = search rules
 
-array-share-prefix-digits : tie.Need-array-share-prefix-digits
-array-share-prefix-digits c = search rules
+array_share_prefix_digits : tie.Need-array-share-prefix-digits
+array_share_prefix_digits c = search rules
 
-slice-aggregate-put-bytes : tie.Need-slice-aggregate-put-bytes
-slice-aggregate-put-bytes c = search rules
+slice_aggregate_put_bytes : tie.Need-slice-aggregate-put-bytes
+slice_aggregate_put_bytes c = search rules
 
-put-bytes-requires : tie.Need-put-bytes-requires
-put-bytes-requires c κs =
+put_bytes_requires : tie.Need-put-bytes-requires
+put_bytes_requires c κs =
     let d = c.before.before.decimal in
     let n = c.before.before.before.before.before.args.number in
     let h : Fits w64 n = search rules in
-    let e : take d.result d.new.1.0 ≡ decimal n = d.ensures.1.1 ∙ decimal-is n d.result (omega arith) d.ensures.1.0 in
-    omega (arith, ap length e, decimal-few n)
+    let e : take d.result d.new.1.0 ≡ decimal n = d.ensures.1.1 ∙ decimal_is n d.result (omega arith) d.ensures.1.0 in
+    omega (arith, ap length e, decimal_few n)
 
-put-byte-requires : tie.Need-put-byte-requires
-put-byte-requires c κs =
+put_byte_requires : tie.Need-put-byte-requires
+put_byte_requires c κs =
     let d = c.before.before.before.before.before.before.decimal in
     let n = c.before.before.before.before.before.before.before.before.before.args.number in
     let h : Fits w64 n = search rules in
-    let e : take d.result d.new.1.0 ≡ decimal n = d.ensures.1.1 ∙ decimal-is n d.result (omega arith) d.ensures.1.0 in
-    let p = c.before.before.before.put-bytes in
-    omega (arith, ap length e, decimal-few n, p.ensures.next, puts-length p.ensures)
+    let e : take d.result d.new.1.0 ≡ decimal n = d.ensures.1.1 ∙ decimal_is n d.result (omega arith) d.ensures.1.0 in
+    let p = c.before.before.before.put_bytes in
+    omega (arith, ap length e, decimal_few n, p.ensures.next, puts_length p.ensures)
 
 same_length : tie.Need-same-length
 same_length c = search rules
@@ -44,19 +44,19 @@ returns c =
     let d = c.before.before.before.before.before.before.before.before.before.decimal in
     let n = c.before.before.before.before.before.before.before.before.before.before.before.before.args.number in
     let h : Fits w64 n = search rules in
-    let e : take d.result d.new.1.0 ≡ decimal n = d.ensures.1.1 ∙ decimal-is n d.result (omega arith) d.ensures.1.0 in
-    let p = c.before.before.before.before.before.before.put-bytes in
+    let e : take d.result d.new.1.0 ≡ decimal n = d.ensures.1.1 ∙ decimal_is n d.result (omega arith) d.ensures.1.0 in
+    let p = c.before.before.before.before.before.before.put_bytes in
     let q = c.before.before.put_byte in
-    (puts_then (rw e at p.ensures) q.ensures, omega (arith, ap length e, decimal-few n, p.ensures.next, q.ensures.next))
+    (puts_then (rw e at p.ensures) q.ensures, omega (arith, ap length e, decimal_few n, p.ensures.next, q.ensures.next))
 
-pub put-number-spec : {M : Type 1} → statement M
-put-number-spec =
+pub put_number_spec : {M : Type 1} → statement M
+put_number_spec =
     tie.close
     (tie.spec
-    decimal-requires
-    array-share-prefix-digits
-    slice-aggregate-put-bytes
-    put-bytes-requires
-    put-byte-requires
+    decimal_requires
+    array_share_prefix_digits
+    slice_aggregate_put_bytes
+    put_bytes_requires
+    put_byte_requires
     same_length
     returns)

@@ -12,19 +12,19 @@ returns : tie.Need-returns
 unfolding last_of
 returns c = rw (ne_eqb _ _ c.if1.true)
 
-returns-2 : tie.Need-returns-2
+returns_2 : tie.Need-returns-2
 unfolding last_of
-returns-2 c =
+returns_2 c =
     let s = c.before.before in
     let n : lt_z s.args.got (pos 0) ≡ true = rw (to_z-of_z _ _ s.ranges.got) at c.if2.true in
     rw (eq-eqb _ _ c.before.if1.false, n)
 
-returns-3 : tie.Need-returns-3
+returns_3 : tie.Need-returns-3
 unfolding last_of
-returns-3 c =
+returns_3 c =
     let s = c.before.before in
     let n : lt_z s.args.got (pos 0) ≡ false = rw (to_z-of_z _ _ s.ranges.got) at c.if2.false in
     rw (eq-eqb _ _ c.before.if1.false, n)
 
-pub last-of-spec : {M : Type 1} → statement M
-last-of-spec = tie.close (tie.spec returns returns-2 returns-3)
+pub last_of_spec : {M : Type 1} → statement M
+last_of_spec = tie.close (tie.spec returns returns_2 returns_3)

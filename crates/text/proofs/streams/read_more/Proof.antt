@@ -4,28 +4,28 @@ use native.Mathlib.Omega.{arith}
 use lib.ListN.{length}
 use borrow.Rule.Slice.PartMut.{take_put}
 use Rattle.text.specs.declared.streams.Fetched.{Fetched}
-use Rattle.text.proofs.StreamLaws.{came-of}
+use Rattle.text.proofs.StreamLaws.{came_of}
 use borrow.Author.Rules.{rules}
 use Rattle.text.proofs.streams.read_more.Statement.{statement}
 use Rattle.text.proofs.streams.read_more.Tie as tie
 
-sub-rest : tie.Need-overflow-sub-rest
-sub-rest c = search rules
+sub_rest : tie.Need-overflow-sub-rest
+sub_rest c = search rules
 
-part-rest-start : tie.Need-slice-bounds-rest-start
-part-rest-start c = search rules
+part_rest_start : tie.Need-slice-bounds-rest-start
+part_rest_start c = search rules
 
-part-rest-end : tie.Need-slice-bounds-rest-end
-part-rest-end c = search rules
+part_rest_end : tie.Need-slice-bounds-rest-end
+part_rest_end c = search rules
 
-read-requires : tie.Need-read-requires
-read-requires c κs = search rules
+read_requires : tie.Need-read-requires
+read_requires c κs = search rules
 
-count-requires : tie.Need-count-requires
-count-requires c κs = search rules
+count_requires : tie.Need-count-requires
+count_requires c κs = search rules
 
-taken-requires : tie.Need-taken-requires
-taken-requires c κs = search rules
+taken_requires : tie.Need-taken-requires
+taken_requires c κs = search rules
 
 same_length : tie.Need-same-length
 same_length c = search rules
@@ -44,19 +44,19 @@ returns c =
       onward = omega (arith, filled);
       within = rw filled (search rules);
       same = take_put a.filled (length a.block.now - a.filled) a.block.now r.new.1.0 k;
-      came = rw (ap (λ (x : Fetched). x.input.last) q, filled, e) (came-of _ more);
+      came = rw (ap (λ (x : Fetched). x.input.last) q, filled, e) (came_of _ more);
       counted = rw (ap (λ (x : Fetched). x.input.total) q, filled, e);
     }
 
-pub read-more-spec : {M : Type 1} → statement M
-read-more-spec =
+pub read_more_spec : {M : Type 1} → statement M
+read_more_spec =
     tie.close
     (tie.spec
-    sub-rest
-    part-rest-start
-    part-rest-end
-    read-requires
-    count-requires
-    taken-requires
+    sub_rest
+    part_rest_start
+    part_rest_end
+    read_requires
+    count_requires
+    taken_requires
     same_length
     returns)

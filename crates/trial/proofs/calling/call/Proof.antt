@@ -5,108 +5,108 @@ use Rattle.trial.proofs.calling.call.Tie as tie
 enum_told : tie.Need-enum-told
 enum_told c = search rules
 
-separate-at-requires : tie.Need-separate-at-requires
-separate-at-requires c κs = rw c.enum_told.given.1 at c.before.before.before.requires.1
+separate_at_requires : tie.Need-separate-at-requires
+separate_at_requires c κs = rw c.enum_told.given.1 at c.before.before.before.requires.1
 
-make-requires : tie.Need-make-requires
-make-requires c κs = search rules
+make_requires : tie.Need-make-requires
+make_requires c κs = search rules
 
-enum-told-2 : tie.Need-enum-told-2
-enum-told-2 c = search rules
+enum_told_2 : tie.Need-enum-told-2
+enum_told_2 c = search rules
 
-grouped-at-requires : tie.Need-grouped-at-requires
-grouped-at-requires c κs = rw c.enum-told2.given.1 at c.before.before.before.requires.1
+grouped_at_requires : tie.Need-grouped-at-requires
+grouped_at_requires c κs = rw c.enum_told2.given.1 at c.before.before.before.requires.1
 
-make-requires-2 : tie.Need-make-requires-2
-make-requires-2 c κs = search rules
+make_requires_2 : tie.Need-make-requires-2
+make_requires_2 c κs = search rules
 
-enum-told-3 : tie.Need-enum-told-3
-enum-told-3 c = search rules
+enum_told_3 : tie.Need-enum-told-3
+enum_told_3 c = search rules
 
-limited-at-requires : tie.Need-limited-at-requires
-limited-at-requires c κs = rw c.enum-told3.given.1 at c.before.before.before.requires.1
+limited_at_requires : tie.Need-limited-at-requires
+limited_at_requires c κs = rw c.enum_told3.given.1 at c.before.before.before.requires.1
 
-make-requires-3 : tie.Need-make-requires-3
-make-requires-3 c κs = search rules
+make_requires_3 : tie.Need-make-requires-3
+make_requires_3 c κs = search rules
 
-enum-told-4 : tie.Need-enum-told-4
-enum-told-4 c = search rules
+enum_told_4 : tie.Need-enum-told-4
+enum_told_4 c = search rules
 
-apply-requires : tie.Need-apply-requires
-apply-requires c κs = (c.before.before.before.before.requires.0, rw c.before.enum-told4.given.1 at c.before.before.before.before.requires.1)
+apply_requires : tie.Need-apply-requires
+apply_requires c κs = (c.before.before.before.before.requires.0, rw c.before.enum_told4.given.1 at c.before.before.before.before.requires.1)
 
-enum-known-c : tie.Need-enum-known-c
-enum-known-c c = search rules
+enum_known_c : tie.Need-enum-known-c
+enum_known_c c = search rules
 
-cast-read : tie.Need-overflow-cast-read
-cast-read c = search rules
+cast_read : tie.Need-overflow-cast-read
+cast_read c = search rules
 
-read-requires : tie.Need-read-requires
-read-requires c κs = rw c.before.before.c.given.1 at c.before.before.before.before.before.requires.1
+read_requires : tie.Need-read-requires
+read_requires c κs = rw c.before.before.c.given.1 at c.before.before.before.before.before.requires.1
 
-enum-told-5 : tie.Need-enum-told-5
-enum-told-5 c = search rules
+enum_told_5 : tie.Need-enum-told-5
+enum_told_5 c = search rules
 
-write-requires : tie.Need-write-requires
-write-requires c κs = rw c.before.enum-told5.given.1 at c.before.before.before.before.requires.1
+write_requires : tie.Need-write-requires
+write_requires c κs = rw c.before.enum_told5.given.1 at c.before.before.before.before.requires.1
 
-enum-told-6 : tie.Need-enum-told-6
-enum-told-6 c = search rules
+enum_told_6 : tie.Need-enum-told-6
+enum_told_6 c = search rules
 
-enum-told-7 : tie.Need-enum-told-7
-enum-told-7 c = search rules
+enum_told_7 : tie.Need-enum-told-7
+enum_told_7 c = search rules
 
 returns : tie.Need-returns
 returns c = search rules
 
-returns-2 : tie.Need-returns-2
-returns-2 c = search rules
+returns_2 : tie.Need-returns-2
+returns_2 c = search rules
 
-returns-3 : tie.Need-returns-3
-returns-3 c = search rules
+returns_3 : tie.Need-returns-3
+returns_3 c = search rules
 
-returns-4 : tie.Need-returns-4
-returns-4 c = search rules
+returns_4 : tie.Need-returns-4
+returns_4 c = search rules
 
-returns-5 : tie.Need-returns-5
-returns-5 c = search rules
+returns_5 : tie.Need-returns-5
+returns_5 c = search rules
 
-returns-6 : tie.Need-returns-6
-returns-6 c = search rules
+returns_6 : tie.Need-returns-6
+returns_6 c = search rules
 
-returns-7 : tie.Need-returns-7
-returns-7 c = search rules
+returns_7 : tie.Need-returns-7
+returns_7 c = search rules
 
-returns-8 : tie.Need-returns-8
-returns-8 c = search rules
+returns_8 : tie.Need-returns-8
+returns_8 c = search rules
 
-pub call-spec : {M : Type 1} → statement M
-call-spec =
+pub call_spec : {M : Type 1} → statement M
+call_spec =
     tie.close
     (tie.spec
     enum_told
-    separate-at-requires
-    make-requires
-    enum-told-2
-    grouped-at-requires
-    make-requires-2
-    enum-told-3
-    limited-at-requires
-    make-requires-3
-    enum-told-4
-    apply-requires
-    enum-known-c
-    cast-read
-    read-requires
-    enum-told-5
-    write-requires
-    enum-told-6
-    enum-told-7
+    separate_at_requires
+    make_requires
+    enum_told_2
+    grouped_at_requires
+    make_requires_2
+    enum_told_3
+    limited_at_requires
+    make_requires_3
+    enum_told_4
+    apply_requires
+    enum_known_c
+    cast_read
+    read_requires
+    enum_told_5
+    write_requires
+    enum_told_6
+    enum_told_7
     returns
-    returns-2
-    returns-3
-    returns-4
-    returns-5
-    returns-6
-    returns-7
-    returns-8)
+    returns_2
+    returns_3
+    returns_4
+    returns_5
+    returns_6
+    returns_7
+    returns_8)

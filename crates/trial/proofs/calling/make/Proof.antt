@@ -1,35 +1,35 @@
 use mathlib.Core.Path.{sym, subst}
 use Rattle.book.specs.rules.Valid.{Valid}
-use Rattle.book.proofs.Laws.{stays-valid}
+use Rattle.book.proofs.Laws.{stays_valid}
 use borrow.Author.Rules.{rules}
 use Rattle.trial.proofs.calling.make.Statement.{statement}
 use Rattle.trial.proofs.calling.make.Tie as tie
 
-new-requires : tie.Need-new-requires
-new-requires c κs = search rules
+new_requires : tie.Need-new-requires
+new_requires c κs = search rules
 
-number-requires : tie.Need-number-requires
-number-requires c κs = search rules
+number_requires : tie.Need-number-requires
+number_requires c κs = search rules
 
-array-write-numbers : tie.Need-array-write-numbers
-array-write-numbers c = search rules
+array_write_numbers : tie.Need-array-write-numbers
+array_write_numbers c = search rules
 
-slice-aggregate-put-line : tie.Need-slice-aggregate-put-line
-slice-aggregate-put-line c = search rules
+slice_aggregate_put_line : tie.Need-slice-aggregate-put-line
+slice_aggregate_put_line c = search rules
 
-put-line-requires : tie.Need-put-line-requires
-put-line-requires c κs = search rules
+put_line_requires : tie.Need-put-line-requires
+put_line_requires c κs = search rules
 
 returns : tie.Need-returns
-returns c = (subst Valid (sym c.before.before.before.before.before.before.new.ensures.1) (stays-valid.first _), search rules)
+returns c = (subst Valid (sym c.before.before.before.before.before.before.new.ensures.1) (stays_valid.first _), search rules)
 
 pub make_spec : {M : Type 1} → statement M
 make_spec =
     tie.close
     (tie.spec
-    new-requires
-    number-requires
-    array-write-numbers
-    slice-aggregate-put-line
-    put-line-requires
+    new_requires
+    number_requires
+    array_write_numbers
+    slice_aggregate_put_line
+    put_line_requires
     returns)

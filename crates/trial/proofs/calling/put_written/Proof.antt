@@ -3,76 +3,76 @@ use borrow.Author.Rules.{rules}
 use Rattle.trial.proofs.calling.put_written.Statement.{statement}
 use Rattle.trial.proofs.calling.put_written.Tie as tie
 
-abbrev invariant-loop : tie.invariant-loop
-invariant-loop out answer written bytes room numbers₀ i₀ t9 numbers i =
+abbrev invariant_loop : tie.invariant_loop
+invariant_loop out answer written bytes room numbers₀ i₀ t9 numbers i =
     i ≤ room
 
-abbrev decreases-loop : tie.decreases-loop
-decreases-loop out answer written bytes room numbers₀ i₀ t9 numbers i = room - i
+abbrev decreases_loop : tie.decreases_loop
+decreases_loop out answer written bytes room numbers₀ i₀ t9 numbers i = room - i
 
-array-write-numbers : tie.Need-array-write-numbers invariant-loop decreases-loop
-array-write-numbers c = search rules
+array_write_numbers : tie.Need-array-write-numbers invariant_loop decreases_loop
+array_write_numbers c = search rules
 
-array-write-numbers-2 : tie.Need-array-write-numbers-2 invariant-loop decreases-loop
-array-write-numbers-2 c = search rules
+array_write_numbers_2 : tie.Need-array-write-numbers-2 invariant_loop decreases_loop
+array_write_numbers_2 c = search rules
 
-loop-holds : tie.Need-loop-init invariant-loop decreases-loop
-loop-holds c = search rules
+loop_holds : tie.Need-loop-init invariant_loop decreases_loop
+loop_holds c = search rules
 
-element-copy-out-wide : tie.Need-element-copy-out-wide invariant-loop decreases-loop
-element-copy-out-wide c = search rules
+element_copy_out_wide : tie.Need-element-copy-out-wide invariant_loop decreases_loop
+element_copy_out_wide c = search rules
 
-wide-requires : tie.Need-wide-requires invariant-loop decreases-loop
-wide-requires c κs = search rules
+wide_requires : tie.Need-wide-requires invariant_loop decreases_loop
+wide_requires c κs = search rules
 
-add-numbers : tie.Need-overflow-add-numbers invariant-loop decreases-loop
-add-numbers c = search rules
+add_numbers : tie.Need-overflow-add-numbers invariant_loop decreases_loop
+add_numbers c = search rules
 
-mul-numbers : tie.Need-overflow-mul-numbers invariant-loop decreases-loop
-mul-numbers c = search rules
+mul_numbers : tie.Need-overflow-mul-numbers invariant_loop decreases_loop
+mul_numbers c = search rules
 
-array-write-numbers-3 : tie.Need-array-write-numbers-3 invariant-loop decreases-loop
-array-write-numbers-3 c = search rules
+array_write_numbers_3 : tie.Need-array-write-numbers-3 invariant_loop decreases_loop
+array_write_numbers_3 c = search rules
 
-add-i : tie.Need-overflow-add-i invariant-loop decreases-loop
-add-i c = search rules
+add_i : tie.Need-overflow-add-i invariant_loop decreases_loop
+add_i c = search rules
 
-loop-less : tie.Need-loop-smaller invariant-loop decreases-loop
-loop-less c = search rules
+loop_less : tie.Need-loop-smaller invariant_loop decreases_loop
+loop_less c = search rules
 
-loop-again : tie.Need-loop-preserved invariant-loop decreases-loop
-loop-again c = search rules
+loop_again : tie.Need-loop-preserved invariant_loop decreases_loop
+loop_again c = search rules
 
-slice-aggregate-put-line : tie.Need-slice-aggregate-put-line invariant-loop decreases-loop
-slice-aggregate-put-line c = search rules
+slice_aggregate_put_line : tie.Need-slice-aggregate-put-line invariant_loop decreases_loop
+slice_aggregate_put_line c = search rules
 
-add-put-line : tie.Need-overflow-add-put-line invariant-loop decreases-loop
-add-put-line c = search rules
+add_put_line : tie.Need-overflow-add-put-line invariant_loop decreases_loop
+add_put_line c = search rules
 
-put-line-requires : tie.Need-put-line-requires invariant-loop decreases-loop
-put-line-requires c κs = search rules
+put_line_requires : tie.Need-put-line-requires invariant_loop decreases_loop
+put_line_requires c κs = search rules
 
-returns : tie.Need-returns invariant-loop decreases-loop
+returns : tie.Need-returns invariant_loop decreases_loop
 returns c = search rules
 
-pub put-written-spec : {M : Type 1} → statement M
-put-written-spec =
+pub put_written_spec : {M : Type 1} → statement M
+put_written_spec =
     tie.close
     (tie.spec
-    invariant-loop
-    decreases-loop
-    array-write-numbers
-    array-write-numbers-2
-    loop-holds
-    element-copy-out-wide
-    wide-requires
-    add-numbers
-    mul-numbers
-    array-write-numbers-3
-    add-i
-    loop-less
-    loop-again
-    slice-aggregate-put-line
-    add-put-line
-    put-line-requires
+    invariant_loop
+    decreases_loop
+    array_write_numbers
+    array_write_numbers_2
+    loop_holds
+    element_copy_out_wide
+    wide_requires
+    add_numbers
+    mul_numbers
+    array_write_numbers_3
+    add_i
+    loop_less
+    loop_again
+    slice_aggregate_put_line
+    add_put_line
+    put_line_requires
     returns)

@@ -6,67 +6,67 @@ use borrow.Author.Rules.{rules}
 use Rattle.trial.proofs.calls.number_at.Statement.{statement}
 use Rattle.trial.proofs.calls.number_at.Tie as tie
 
-abbrev invariant-loop : tie.invariant-loop
-invariant-loop s place width number₀ i₀ number i = (i ≤ width) × (number < 256 ^ (width - i))
+abbrev invariant_loop : tie.invariant_loop
+invariant_loop s place width number₀ i₀ number i = (i ≤ width) × (number < 256 ^ (width - i))
 
-abbrev decreases-loop : tie.decreases-loop
-decreases-loop s place width number₀ i₀ number i = i
+abbrev decreases_loop : tie.decreases_loop
+decreases_loop s place width number₀ i₀ number i = i
 
-small : (c : tie.At-loop invariant-loop decreases-loop) → 0 < c.loop.i → c.loop.number < 2 ^ 56
+small : (c : tie.At-loop invariant_loop decreases_loop) → 0 < c.loop.i → c.loop.number < 2 ^ 56
 small c h =
     omega (arith, pow-le-pow_right {n = 256} (omega arith) {i = c.before.before.args.width - c.loop.i} {j = 7} (omega arith))
 
-loop-holds : tie.Need-loop-init invariant-loop decreases-loop
-loop-holds c = (le_refl _, rw sub_self (omega arith))
+loop_holds : tie.Need-loop-init invariant_loop decreases_loop
+loop_holds c = (le_refl _, rw sub_self (omega arith))
 
-sub-i : tie.Need-overflow-sub-i invariant-loop decreases-loop
-sub-i c = search rules
+sub_i : tie.Need-overflow-sub-i invariant_loop decreases_loop
+sub_i c = search rules
 
-mul-number : tie.Need-overflow-mul-number invariant-loop decreases-loop
-mul-number c = omega (arith, small c.before c.loop-test.true)
+mul_number : tie.Need-overflow-mul-number invariant_loop decreases_loop
+mul_number c = omega (arith, small c.before c.loop_test.true)
 
-add_wide : tie.Need-overflow-add-wide invariant-loop decreases-loop
+add_wide : tie.Need-overflow-add-wide invariant_loop decreases_loop
 add_wide c = search rules
 
-shared-slice-read-wide : tie.Need-shared-slice-read-wide invariant-loop decreases-loop
-shared-slice-read-wide c = search rules
+shared_slice_read_wide : tie.Need-shared-slice-read-wide invariant_loop decreases_loop
+shared_slice_read_wide c = search rules
 
-wide-requires : tie.Need-wide-requires invariant-loop decreases-loop
-wide-requires c κs = search rules
+wide_requires : tie.Need-wide-requires invariant_loop decreases_loop
+wide_requires c κs = search rules
 
-add-number : tie.Need-overflow-add-number invariant-loop decreases-loop
-add-number c = omega (arith, small c.before.before.before c.before.before.loop-test.true)
+add_number : tie.Need-overflow-add-number invariant_loop decreases_loop
+add_number c = omega (arith, small c.before.before.before c.before.before.loop_test.true)
 
-loop-less : tie.Need-loop-smaller invariant-loop decreases-loop
-loop-less c = search rules
+loop_less : tie.Need-loop-smaller invariant_loop decreases_loop
+loop_less c = search rules
 
-loop-again : tie.Need-loop-preserved invariant-loop decreases-loop
-loop-again c =
+loop_again : tie.Need-loop-preserved invariant_loop decreases_loop
+loop_again c =
     let l = c.before.before.before.loop in
     let a = c.before.before.before.before.before.args in
-    let t = c.before.before.loop-test.true in
+    let t = c.before.before.loop_test.true in
     let e : a.width - (l.i - 1) ≡ suc (a.width - l.i) = omega arith in
     (omega arith, rw e (omega (arith, pow-suc 256 (a.width - l.i), l.invariant.1, c.wide.ensures)))
 
-returns : tie.Need-returns invariant-loop decreases-loop
+returns : tie.Need-returns invariant_loop decreases_loop
 returns c =
     let l = c.before.loop in
     let e : l.i ≡ 0 = omega arith in
     rw (e, sub-zero) at l.invariant.1
 
-pub number-at-spec : {M : Type 1} → statement M
-number-at-spec =
+pub number_at_spec : {M : Type 1} → statement M
+number_at_spec =
     tie.close
     (tie.spec
-    invariant-loop
-    decreases-loop
-    loop-holds
-    sub-i
-    mul-number
+    invariant_loop
+    decreases_loop
+    loop_holds
+    sub_i
+    mul_number
     add_wide
-    shared-slice-read-wide
-    wide-requires
-    add-number
-    loop-less
-    loop-again
+    shared_slice_read_wide
+    wide_requires
+    add_number
+    loop_less
+    loop_again
     returns)

@@ -2,63 +2,63 @@ use borrow.Author.Rules.{rules}
 use Prim.Native.Nat.{ℕ, ◌+◌, ◌-◌, ◌*◌, ◌≤◌, ◌<◌}
 use native.Mathlib.Omega.{arith}
 use native.Mathlib.Nat.{mul-le-mul, le_refl, add-mul, one-mul}
-use Rattle.settlement.specs.Groups.{groupCount}
+use Rattle.settlement.specs.Groups.{group_count}
 use Rattle.trial.proofs.makings.numbers_at.Statement.{statement}
 use Rattle.trial.proofs.makings.numbers_at.Tie as tie
 
-abbrev invariant-loop : tie.invariant-loop
-invariant-loop s place width numbers₀ i₀ numbers i = i ≤ groupCount
+abbrev invariant_loop : tie.invariant_loop
+invariant_loop s place width numbers₀ i₀ numbers i = i ≤ group_count
 
-abbrev decreases-loop : tie.decreases-loop
-decreases-loop s place width numbers₀ i₀ numbers i = groupCount - i
+abbrev decreases_loop : tie.decreases_loop
+decreases_loop s place width numbers₀ i₀ numbers i = group_count - i
 
 -- a number ends where all of them do, or before
-ends : (i width : ℕ) → i < groupCount → i * width + width ≤ groupCount * width
-ends i width h = omega (arith, (let more : (i + 1) * width ≤ groupCount * width = mul-le-mul (omega arith) (le_refl width) in more), add-mul i 1 width, one-mul width)
+ends : (i width : ℕ) → i < group_count → i * width + width ≤ group_count * width
+ends i width h = omega (arith, (let more : (i + 1) * width ≤ group_count * width = mul-le-mul (omega arith) (le_refl width) in more), add-mul i 1 width, one-mul width)
 
-loop-holds : tie.Need-loop-init invariant-loop decreases-loop
-loop-holds c = search rules
+loop_holds : tie.Need-loop-init invariant_loop decreases_loop
+loop_holds c = search rules
 
-mul-number-at : tie.Need-overflow-mul-number-at invariant-loop decreases-loop
-mul-number-at c = omega (arith, ends c.before.loop.i c.before.before.before.args.width c.loop-test.true, c.before.before.before.requires)
+mul_number_at : tie.Need-overflow-mul-number-at invariant_loop decreases_loop
+mul_number_at c = omega (arith, ends c.before.loop.i c.before.before.before.args.width c.loop_test.true, c.before.before.before.requires)
 
-add-number-at : tie.Need-overflow-add-number-at invariant-loop decreases-loop
-add-number-at c = omega (arith, ends c.before.loop.i c.before.before.before.args.width c.loop-test.true, c.before.before.before.requires)
+add_number_at : tie.Need-overflow-add-number-at invariant_loop decreases_loop
+add_number_at c = omega (arith, ends c.before.loop.i c.before.before.before.args.width c.loop_test.true, c.before.before.before.requires)
 
-number-at-requires : tie.Need-number-at-requires invariant-loop decreases-loop
-number-at-requires c κs = (c.before.before.before.requires.0, omega (arith, ends c.before.loop.i c.before.before.before.args.width c.loop-test.true))
+number_at_requires : tie.Need-number-at-requires invariant_loop decreases_loop
+number_at_requires c κs = (c.before.before.before.requires.0, omega (arith, ends c.before.loop.i c.before.before.before.args.width c.loop_test.true))
 
-mul-numbers : tie.Need-overflow-mul-numbers invariant-loop decreases-loop
-mul-numbers c = search rules
+mul_numbers : tie.Need-overflow-mul-numbers invariant_loop decreases_loop
+mul_numbers c = search rules
 
-array-write-numbers : tie.Need-array-write-numbers invariant-loop decreases-loop
-array-write-numbers c = search rules
+array_write_numbers : tie.Need-array-write-numbers invariant_loop decreases_loop
+array_write_numbers c = search rules
 
-add-i : tie.Need-overflow-add-i invariant-loop decreases-loop
-add-i c = search rules
+add_i : tie.Need-overflow-add-i invariant_loop decreases_loop
+add_i c = search rules
 
-loop-less : tie.Need-loop-smaller invariant-loop decreases-loop
-loop-less c = search rules
+loop_less : tie.Need-loop-smaller invariant_loop decreases_loop
+loop_less c = search rules
 
-loop-again : tie.Need-loop-preserved invariant-loop decreases-loop
-loop-again c = search rules
+loop_again : tie.Need-loop-preserved invariant_loop decreases_loop
+loop_again c = search rules
 
-returns : tie.Need-returns invariant-loop decreases-loop
+returns : tie.Need-returns invariant_loop decreases_loop
 returns c = search rules
 
-pub numbers-at-spec : {M : Type 1} → statement M
-numbers-at-spec =
+pub numbers_at_spec : {M : Type 1} → statement M
+numbers_at_spec =
     tie.close
     (tie.spec
-    invariant-loop
-    decreases-loop
-    loop-holds
-    mul-number-at
-    add-number-at
-    number-at-requires
-    mul-numbers
-    array-write-numbers
-    add-i
-    loop-less
-    loop-again
+    invariant_loop
+    decreases_loop
+    loop_holds
+    mul_number_at
+    add_number_at
+    number_at_requires
+    mul_numbers
+    array_write_numbers
+    add_i
+    loop_less
+    loop_again
     returns)
