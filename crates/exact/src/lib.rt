@@ -1,4 +1,6 @@
 // Exact arithmetic in whole cents: every product is formed before it is divided, in 64-bit words.
+#![tactic(auto)]
+
 mod division;
 mod energy;
 mod numbers;
