@@ -20,7 +20,7 @@ use crate::ways::{Way, way_at};
 use exact::{PLACES, put_cells};
 
 // What a run leaves: the book, the place of the next entry, and how many words of lines it wrote.
-#[derive(Drop)]
+#[derive(Clone, Copy)]
 pub struct Ran {
     pub book: Book,
     pub place: usize,

@@ -12,7 +12,7 @@ use exact::{put_cells, total};
 use settlement::Grouping;
 
 // The answer, the rounds of a settlement, the period and the cents held afterwards, and the cents paid.
-#[derive(Drop)]
+#[derive(Clone, Copy)]
 pub struct Effect {
     pub answer: Answer,
     pub rounds: u64,

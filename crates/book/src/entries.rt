@@ -2,7 +2,7 @@
 ghost use Rattle.std.specs.Prelude.{◌≡◌};
 ghost use Rattle.book.specs.layouts.Entries.{kind_of, unknown};
 
-#[derive(Drop)]
+#[derive(Clone, Copy)]
 pub enum Entry {
     Open {
         period: u32,

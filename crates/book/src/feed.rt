@@ -4,7 +4,7 @@ ghost use Rattle.book.specs.layouts.Reading.{reading, read_outcome};
 
 use crate::reader::{Reading, read_entry};
 
-#[derive(Drop)]
+#[derive(Clone, Copy)]
 pub struct Feed<'a> {
     bytes: &'a [u8],
     place: usize,

@@ -42,7 +42,7 @@ pub const SIDES: usize = 2;
 // The places that a book has for periods.
 pub const PERIOD_PLACES: usize = 12;
 
-#[derive(Drop)]
+#[derive(Clone, Copy)]
 pub enum Stage {
     Opened,
     Noticed,
@@ -51,7 +51,7 @@ pub enum Stage {
 
 // A period: each side's total, and rows of cents with a cell for each participant. `payable` is 0 until the notice,
 // `paid`, `claim` and `arrears` are 0 until the settlement.
-#[derive(Drop)]
+#[derive(Clone, Copy)]
 pub struct Period {
     number: u32,
     stage: Stage,
@@ -67,7 +67,7 @@ pub struct Period {
 
 // A book of n participants: their groups and reserves, its limits, the highest period ever opened, the cents held, its periods
 // in the first `count` places, oldest first, and each participant's purse.
-#[derive(Drop)]
+#[derive(Clone, Copy)]
 pub struct Book {
     n: usize,
     grouping: Grouping,

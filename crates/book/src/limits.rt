@@ -6,7 +6,7 @@ use crate::PERIOD_PLACES;
 use exact::PLACES;
 
 // The most participants that a book can be made for, and the most periods that can be in it.
-#[derive(Drop)]
+#[derive(Clone, Copy)]
 pub struct Limits {
     pub participants: usize,
     pub periods: usize,

@@ -15,7 +15,7 @@ use settlement::{GROUPS, Grouping, is_grouping_allowed};
 
 // The number of participants, their groups with the groups' reserves, and the limits of the book. Group numbers from n on are
 // not looked at.
-#[derive(Drop)]
+#[derive(Clone, Copy)]
 pub struct Making {
     pub n: usize,
     pub grouping: Grouping,
@@ -23,7 +23,7 @@ pub struct Making {
 }
 
 // A book that was made, or refused.
-#[derive(Drop)]
+#[derive(Clone, Copy)]
 pub struct Made {
     pub answer: Answer,
     pub book: Book,

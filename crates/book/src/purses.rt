@@ -97,7 +97,7 @@ pub fn drawable_purses(b: Book, number: u32) -> Row
 }
 
 // A period and the purses, once what is drawn has been moved.
-#[derive(Drop)]
+#[derive(Clone, Copy)]
 pub struct Drawing {
     pub period: Period,
     pub purses: Row,

@@ -9,7 +9,7 @@ use crate::entries::{BODY_LENGTHS, Entry, is_unknown};
 use crate::fields::{byte_at, long_at, word_at};
 
 // What stands at a place: an entry, with the place after it, or nothing that can be read.
-#[derive(Drop)]
+#[derive(Clone, Copy)]
 pub enum Reading {
     Found { entry: Entry, next: usize },
     Short,

@@ -24,7 +24,7 @@ use crate::refusals::opening_answer;
 use exact::{PLACES, put_cells};
 
 // The answer to an entry, the rounds of a settlement, and the book that it leaves.
-#[derive(Drop)]
+#[derive(Clone, Copy)]
 pub struct Applied {
     pub answer: Answer,
     pub rounds: u64,

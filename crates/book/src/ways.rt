@@ -17,7 +17,7 @@ use crate::refusals::opening_answer;
 // The way of the entry at a place: energy, an amount or a washup of the period at place j of the book, another entry that
 // names the period there, an opening or a purse entry that is accepted, an entry that is refused by what the book shows
 // without a look at a period (4 to 8, 12, 15), or none.
-#[derive(Drop)]
+#[derive(Clone, Copy)]
 pub enum Way {
     Amounts { j: usize },
     Named { j: usize, entry: Entry, next: usize },

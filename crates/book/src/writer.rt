@@ -11,7 +11,7 @@ use crate::entries::{BODY_LENGTHS, Entry, kind_of};
 use crate::fields::put;
 
 // How many bytes were written, or why none was.
-#[derive(Drop)]
+#[derive(Clone, Copy)]
 pub enum Writing {
     Wrote(usize),
     Outside,
@@ -28,7 +28,7 @@ fn put_head(out: &mut [u8], kind: u8, period: u32)
 }
 
 // A field: its width in bytes and its value.
-#[derive(Drop)]
+#[derive(Clone, Copy)]
 struct Field {
     width: usize,
     value: u64,

@@ -83,7 +83,7 @@ pub fn each_at_most(a: Row, b: Row, n: usize) -> bool
 
 // Whether a settlement's arguments are in order, and the payable row of the month's notice where they are: the settlement
 // is handed that row, so that no notice is reckoned twice.
-#[derive(Drop)]
+#[derive(Clone, Copy)]
 pub struct Checked {
     pub passed: bool,
     pub payable: Row,

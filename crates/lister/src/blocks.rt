@@ -22,7 +22,7 @@ pub type Out = [u8; OUT];
 pub const WAITING: usize = 212992;
 
 // What is to be done once the output is written: list on in the block, read more of the input, or nothing.
-#[derive(Drop)]
+#[derive(Clone, Copy)]
 pub enum Next {
     Again,
     Read,
@@ -31,7 +31,7 @@ pub enum Next {
 
 // Where a listing stands in a block: the book, the number and the place of the next entry, how many bytes of output wait, and
 // what is to be done next.
-#[derive(Drop)]
+#[derive(Clone, Copy)]
 pub struct Standing {
     pub book: Book,
     pub number: u64,

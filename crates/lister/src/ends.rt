@@ -8,7 +8,7 @@ use text::{Errors, Input, Output, has_ended, has_failed, put_bytes, write_error}
 
 // Why a listing ended: at bytes that cannot be read as an entry, at the end of the input, with its turns used up, or where
 // standard input or output failed.
-#[derive(Drop)]
+#[derive(Clone, Copy)]
 pub enum End {
     Unread,
     Input,
@@ -18,7 +18,7 @@ pub enum End {
 }
 
 // How a listing ended: why, after how many turns, and its input and output.
-#[derive(Drop)]
+#[derive(Clone, Copy)]
 pub struct Ending {
     pub why: End,
     pub turns: u64,

@@ -9,7 +9,7 @@ use crate::owing::{TierCells, over_tiers};
 use exact::{Row, excesses, minima, sums};
 
 // What step 1 hands on.
-#[derive(Drop)]
+#[derive(Clone, Copy)]
 pub struct Claimed {
     pub owing: Row,
     pub claims: Row,

@@ -15,7 +15,7 @@ const RESERVE_LIMIT: u64 = 10_000_000_000_000;
 pub type GroupRow = [u64; GROUPS];
 
 // The group number of each participant, and the GST reserve of each group in cents.
-#[derive(Drop)]
+#[derive(Clone, Copy)]
 pub struct Grouping {
     pub groups: Row,
     pub reserves: GroupRow,

@@ -1,4 +1,6 @@
 // One month in whole cents: retention and payable amounts at notice, settlement with its rounds, and late money.
+#![tactic(auto)]
+
 mod claims;
 mod groups;
 mod late;

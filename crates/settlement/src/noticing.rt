@@ -9,7 +9,7 @@ use crate::retention::largest_gifts;
 use exact::{Row, excesses, sums};
 
 // What a notice hands on.
-#[derive(Drop)]
+#[derive(Clone, Copy)]
 pub struct Noticed {
     pub retention: Row,
     pub payable: Row,

@@ -11,7 +11,7 @@ use crate::walk::meet_tiers;
 use exact::{Row, excess, excesses, sums, total};
 
 // What steps 1 to 3 hand on. Scaled amounts are in two rows: `above` where they are positive, `below`, with the sign turned, where they are negative.
-#[derive(Drop)]
+#[derive(Clone, Copy)]
 pub struct Scaled {
     pub claims: Row,
     pub arrears: Row,

@@ -11,7 +11,7 @@ use crate::spread::spread;
 use exact::Row;
 
 // What a settlement hands on.
-#[derive(Drop)]
+#[derive(Clone, Copy)]
 pub struct Settled {
     pub rounds: u64,
     pub claims: Row,

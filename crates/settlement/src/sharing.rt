@@ -9,21 +9,21 @@ ghost use Rattle.settlement.specs.inner.Cuts.{count_from, CutBetween};
 use exact::{PLACES, Row, excess, proportion, smaller, total};
 
 // Shares rounded down, with the remainders of their divisions.
-#[derive(Drop)]
+#[derive(Clone, Copy)]
 struct Divided {
     cents: Row,
     remainders: Row,
 }
 
 // Two remainders between which the cut is: above `low`, and not above `least`.
-#[derive(Drop)]
+#[derive(Clone, Copy)]
 struct Between {
     low: u64,
     least: u64,
 }
 
 // A participant's cent, 0 or 1, and the cents that are still spare for those just below the cut.
-#[derive(Drop)]
+#[derive(Clone, Copy)]
 struct Given {
     cent: u64,
     spare: u64,

@@ -9,7 +9,7 @@ ghost use Rattle.settlement.specs.Rounds.{negatives_at_zero, weight, loss, sprea
 use exact::{PLACES, Row, excess, excesses, proportion_up, smaller, total};
 
 // The balances that the rounds leave, and how many rounds ran.
-#[derive(Drop)]
+#[derive(Clone, Copy)]
 pub struct Spent {
     pub rounds: u64,
     pub balances: Row,

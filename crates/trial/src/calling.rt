@@ -25,7 +25,7 @@ const WORD: u64 = 9;
 const BYTE: u8 = 238;
 
 // The book that a call leaves, and how many bytes its line takes.
-#[derive(Drop)]
+#[derive(Clone, Copy)]
 pub struct Called {
     pub book: Book,
     pub wrote: usize,

@@ -32,7 +32,7 @@ const LAST_KIND: u8 = 8;
 
 // What stands at the start of the bytes: a whole call, of READ with how many bytes are to be read; the start of one; or
 // no call.
-#[derive(Drop)]
+#[derive(Clone, Copy)]
 pub enum Call {
     Make,
     MakeGrouped,
@@ -46,7 +46,7 @@ pub enum Call {
 
 // What APPLY and WRITE are called with: all fields, whatever the kind, and how many words or bytes to lend. The new quantity of
 // a washup is in `quantity`.
-#[derive(Drop)]
+#[derive(Clone, Copy)]
 pub struct Fields {
     pub kind: u8,
     pub period: u32,

@@ -33,7 +33,7 @@ pub fn put_line(out: &mut [u8], name: &[u8], numbers: &[u64; NUMBERS], count: us
 pub const MOST_FIELDS: usize = 7;
 
 // An entry as numbers: the kind, and its fields in the layout's order.
-#[derive(Drop)]
+#[derive(Clone, Copy)]
 pub struct Layout {
     pub kind: u64,
     pub count: usize,
