@@ -1,4 +1,6 @@
 // The clearing book: periods, purses and entries.
+#![tactic(auto)]
+
 use exact::Row;
 use settlement::{Grouping, TierCells};
 

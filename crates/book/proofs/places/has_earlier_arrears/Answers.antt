@@ -1,0 +1,32 @@
+use Prim.Native.Nat.{◌-◌}
+use mathlib.Core.Path.{refl, sym, ◌∙◌}
+use native.Mathlib.Omega.{arith}
+use Rattle.book.proofs.records.Packing.{earlier_more, earlier_end}
+use Rattle.book.proofs.places.has_earlier_arrears.Goals as goal
+
+pub loop-k-init : goal.loop-k-init
+loop-k-init c = (omega arith, refl)
+
+pub offset_bounds-b-k : goal.offset_bounds-b-k
+offset_bounds-b-k c = omega arith
+
+pub bounds-b-k : goal.bounds-b-k
+bounds-b-k c = omega arith
+
+pub returns-then-has_arrears_before : goal.returns-then-has_arrears_before
+returns-then-has_arrears_before c =
+    let l = c.before.before.before.before in
+    sym (l.loop-k.invariant.1 ∙ earlier_more l.requires.0 l.loop-k.k l.args.i l.args.number (omega arith) ∙ rw (sym c.has_arrears_before.ensures ∙ c.if-has_arrears_before.true))
+
+pub loop-k-smaller : goal.loop-k-smaller
+loop-k-smaller c = omega arith
+
+pub loop-k-preserved : goal.loop-k-preserved
+loop-k-preserved c =
+    let l = c.before.before.before.before in
+    (omega arith, l.loop-k.invariant.1 ∙ earlier_more l.requires.0 l.loop-k.k l.args.i l.args.number (omega arith) ∙ rw (sym c.has_arrears_before.ensures ∙ c.if-has_arrears_before.false))
+
+pub returns : goal.returns
+returns c =
+    let l = c.before in
+    sym (l.loop-k.invariant.1 ∙ earlier_end l.requires.0 l.loop-k.k l.args.i l.args.number (omega arith))

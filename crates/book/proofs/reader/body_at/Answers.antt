@@ -1,0 +1,75 @@
+use native.Mathlib.Omega.{arith}
+use mathlib.Core.Path.{◌≡◌, ap}
+use Prim.Native.Nat.{ℕ, suc, ◌≤◌, ◌<◌}
+use Rattle.book.specs.layouts.Fields.{fields_at}
+use Rattle.book.specs.layouts.Entries.{entry_of}
+use Rattle.book.specs.declared.entries.Entry.TheVariants.{Open, Notice, Settle}
+use Rattle.book.proofs.layouts.EntryLaws.{known}
+use Rattle.book.proofs.reader.body_at.Goals as goal
+use Rattle.book.proofs.reader.body_at.Goals.{In_default}
+
+above : {m k : ℕ} → m ≤ k → (k ≡ m → ⊥) → suc m ≤ k
+above l ne = omega (arith, l, ne)
+
+between : (m k : ℕ) → m ≤ k → k < suc m → k ≡ m
+between m k l h = omega (arith, l, h)
+
+-- a known kind without an arm of its own is the last
+last : (c : In_default) → c.args.kind ≡ 8
+last c =
+    let k = known c.args.kind c.requires.0 in
+    let six = c.in_default.rest.0 in
+    let three = six.0.0.0 in
+    let from_four = above (above (above k.0 three.0.0.1) three.0.1) three.1 in
+    between 8 _ (above (above (above (above from_four six.0.0.1) six.0.1) six.1) c.in_default.rest.1) k.1
+
+pub word_at-requires : goal.word_at-requires
+word_at-requires c = rw c.in-1.keys1 at c.requires.1
+
+pub energy_at-requires : goal.energy_at-requires
+energy_at-requires c = rw c.in-2.keys2 at c.requires.1
+
+pub amount_at-requires : goal.amount_at-requires
+amount_at-requires c = rw c.in-3.keys3 at c.requires.1
+
+pub word_at-requires-in-4 : goal.word_at-requires-in-4
+word_at-requires-in-4 c = rw c.in-4.keys4 at c.requires.1
+
+pub receipt_at-requires : goal.receipt_at-requires
+receipt_at-requires c = rw c.in-5.keys5 at c.requires.1
+
+pub word_at-requires-in-6 : goal.word_at-requires-in-6
+word_at-requires-in-6 c = rw c.in-6.keys6 at c.requires.1
+
+pub purse_at-requires : goal.purse_at-requires
+purse_at-requires c = rw c.in-7.keys7 at c.requires.1
+
+pub washup_at-requires : goal.washup_at-requires
+washup_at-requires c = rw (last c) at c.requires.1
+
+pub returns-in-1 : goal.returns-in-1
+unfolding entry_of fields_at
+returns-in-1 c = rw c.in-1.keys1 (ap Open c.word_at.ensures)
+
+pub returns-in-2 : goal.returns-in-2
+returns-in-2 c = rw c.in-2.keys2 c.energy_at.ensures
+
+pub returns-in-3 : goal.returns-in-3
+returns-in-3 c = rw c.in-3.keys3 c.amount_at.ensures
+
+pub returns-in-4 : goal.returns-in-4
+unfolding entry_of fields_at
+returns-in-4 c = rw c.in-4.keys4 (ap Notice c.word_at-in-4.ensures)
+
+pub returns-in-5 : goal.returns-in-5
+returns-in-5 c = rw c.in-5.keys5 c.receipt_at.ensures
+
+pub returns-in-6 : goal.returns-in-6
+unfolding entry_of fields_at
+returns-in-6 c = rw c.in-6.keys6 (ap Settle c.word_at-in-6.ensures)
+
+pub returns-in-7 : goal.returns-in-7
+returns-in-7 c = rw c.in-7.keys7 c.purse_at.ensures
+
+pub returns-in_default : goal.returns-in_default
+returns-in_default c = rw (last c.before) c.washup_at.ensures

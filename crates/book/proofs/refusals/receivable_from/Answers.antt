@@ -1,0 +1,13 @@
+use mathlib.Core.Path.{sym, ◌∙◌}
+use Rattle.book.specs.rules.Refusals.{receivable}
+use Rattle.book.proofs.refusals.receivable_from.Goals as goal
+
+pub returns-then-is_settled : goal.returns-then-is_settled
+unfolding receivable
+returns-then-is_settled c = simp (sym c.is_settled.ensures ∙ c.if-is_settled.true)
+
+pub returns : goal.returns
+unfolding receivable
+returns c =
+    let b = c.before.before.before in
+    c.excess.ensures ∙ simp (sym b.is_settled.ensures ∙ b.if-is_settled.false)

@@ -1,0 +1,25 @@
+-- Each put keeps the length, and the kind and the fields put one after the other are the bytes of the entry.
+use mathlib.Core.List.{[], ◌∷◌}
+use mathlib.Core.Path.{sym, ◌∙◌}
+use lib.ListN.{length-set}
+use native.Mathlib.Omega.{arith}
+use Rattle.book.specs.layouts.Entries.{layout, bytes_of}
+use Rattle.book.proofs.layouts.FieldLaws.{put_fields}
+use Rattle.book.proofs.writer.put_purse.Goals as goal
+
+pub put-requires : goal.put-requires
+put-requires c = simp length-set (omega (arith, c.requires))
+
+pub put-requires-2 : goal.put-requires-2
+put-requires-2 c = let k = simp length-set at c.put.auto.0 in omega (arith, k, c.requires)
+
+pub shape_of-out : goal.shape_of-out
+shape_of-out c = simp length-set at (c.put-2.auto.0 ∙ c.put.auto.0)
+
+pub returns : goal.returns
+unfolding bytes_of
+returns c =
+    let p2 = c.before.before in
+    let p1 = p2.before.before.before.before in
+    let a = p1.args in
+    p2.put-2.ensures ∙ rw p1.put.ensures (sym (put_fields (layout 7) (a.participant ∷ a.cents ∷ []) _ 1))

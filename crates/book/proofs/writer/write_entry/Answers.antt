@@ -1,0 +1,54 @@
+-- Past the first test the entry is allowed, and n is its size.
+use native.Mathlib.Omega.{arith}
+use mathlib.Core.Path.{◌≡◌, sym, ap, ◌∙◌}
+use mathlib.Core.Bool.{true, false}
+use Prim.Native.Nat.{ℕ, ◌+◌, ◌≤◌}
+use borrow.Author.Tests.{lt-ltb, le-ltb, not-true, not-false}
+use lib.ListN.{length}
+use Rattle.book.specs.layouts.Entries.{body_length, bytes_of, size}
+use Rattle.book.specs.layouts.Allowed.{allowed}
+use Rattle.book.specs.layouts.Writing.{writing, written}
+use Rattle.book.proofs.layouts.EntryLaws.{kind_lt, size_le, bytes_size, put_front}
+use Rattle.book.proofs.writer.write_entry.Goals as goal
+use Rattle.book.proofs.writer.write_entry.Goals.{After-kind_of-kind, Else-not-is_allowed}
+
+ok : (c : Else-not-is_allowed) → allowed c.args.e ≡ true
+ok c = sym c.is_allowed.ensures ∙ not-false _ c.if-not-is_allowed.false
+
+sized : (c : After-kind_of-kind) → body_length c.kind_of-kind.result + 1 ≡ size c.args.e
+sized c = ap (λ (k : ℕ). body_length k + 1) c.kind_of-kind.ensures
+
+pub returns-then-not-is_allowed : goal.returns-then-not-is_allowed
+unfolding writing written
+returns-then-not-is_allowed c =
+    let bad : allowed c.args.e ≡ false = sym c.is_allowed.ensures ∙ not-true _ c.if-not-is_allowed.true in
+    (rw bad, rw bad)
+
+pub offset_bounds-kind : goal.offset_bounds-kind
+offset_bounds-kind c = omega (arith, c.kind_of-kind.ensures, kind_lt c.args.e)
+
+-- UNKNOWN NEED
+array_read_n : tie.Need-array-read-n
+array_read_n c = omega (arith, c.kind_of.ensures, kind_lt c.before.before.before.before.args.e)
+
+pub overflow_add-n : goal.overflow_add-n
+overflow_add-n c = omega (arith, sized c, size_le c.args.e)
+
+pub returns-then-out-n : goal.returns-then-out-n
+unfolding writing written
+returns-then-out-n c =
+    let a = c.args in
+    let short = lt-ltb (length a.out.now) (size a.e) (omega (arith, sized c.before, c.if-out-n.true)) in
+    (rw (ok c.before.before, short), rw (ok c.before.before, short))
+
+pub put_entry-requires : goal.put_entry-requires
+put_entry-requires c = omega (arith, sized c.before.before, c.if-out-n.false)
+
+pub returns : goal.returns
+unfolding writing written
+returns c =
+    let k = c.before.before.before.before.before in
+    let a = k.args in
+    let h : size a.e ≤ length a.out.now = omega (arith, sized k, c.if-out-n.false) in
+    let fits = le-ltb (length a.out.now) (size a.e) h in
+    (rw (ok k.before, fits, sized k), rw (ok k.before, fits) (c.put_entry.ensures ∙ put_front (bytes_of a.e) a.out.now (size a.e) (bytes_size a.e) h))
