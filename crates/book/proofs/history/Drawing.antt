@@ -89,6 +89,7 @@ module _ (n : ℕ) (grouping : Grouping) (g : Ledger) (i : ℕ) (member : i < n)
 
   no_arrears : (k : ℕ) (l : List Period) → All (Kept n grouping g) l → earlier_arrears i k l ≡ false → (j : ℕ) → j < k → Has j (numbers l) → arrears_of j ≡ 0
   unfolding earlier_arrears
+  no_arrears k [] u e j h q = elim q [ ]
   no_arrears k (p ∷ l) u e j h q = go (arrears_before i k p) refl e q (no_arrears k l u.1)
     where
       go : (t : Bool) → arrears_before i k p ≡ t → cond t true (earlier_arrears i k l) ≡ false → Has j (numbers (p ∷ l))

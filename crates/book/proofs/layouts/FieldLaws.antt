@@ -105,6 +105,8 @@ fields_drop (w ∷ ws) s place =
 pub fields_bytes : (ws vs after : List ℕ) → Fit ws vs → fields_at ws (field_bytes ws vs ++ after) 0 ≡ vs
 unfolding fields_at field_bytes
 fields_bytes [] [] after h = refl
+fields_bytes [] (v ∷ vs) after h = elim h [ ]
+fields_bytes (w ∷ ws) [] after h = elim h [ ]
 fields_bytes (w ∷ ws) (v ∷ vs) after h =
     let rest : List ℕ = field_bytes ws vs ++ after in
     rw (append_assoc (bytes w v) (field_bytes ws vs) after, zero-add w)

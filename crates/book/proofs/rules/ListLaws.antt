@@ -95,11 +95,13 @@ rising_more p [] u s = (tt, tt)
 rising_more p (q ∷ l) u s = (all_join _ l (p ∷ []) s.0 (u.0, tt), rising_more p l u.1 s.1)
 
 pub has_more : (p : Period) (k : ℕ) (l : List Period) → Has k (numbers l) → Has k (numbers (l ++ (p ∷ [])))
+has_more p k [] h = elim h [ ]
 has_more p k (x ∷ l) (inl q) = inl q
 has_more p k (x ∷ l) (inr q) = inr (has_more p k l q)
 
 -- what holds of each period holds of the one of number k
 pub all_has : (P : Period → Type 0) (k : ℕ) (l : List Period) → All P l → Has k (numbers l) → (p : Period) × (p.number ≡ k) × P p
+all_has P k [] u h = elim h [ ]
 all_has P k (x ∷ l) u (inl q) = (x, q, u.0)
 all_has P k (x ∷ l) u (inr q) = all_has P k l u.1 q
 

@@ -16,7 +16,7 @@ use Rattle.book.proofs.effects.apply_to_period.Goals.{Else-not-is_accepted}
 
 -- the checks are passed
 passed : (c : Else-not-is_accepted) → let s = c.args in refusal (period_checks s.n s.barred s.e s.p) ≡ 0
-passed c = sym c.period_answer-answer.ensures ∙ eqb-true _ _ (sym c.is_accepted.ensures ∙ not-false _ c.if-not-is_accepted.false)
+passed c = sym c.period_answer-answer.ensures ∙ eqb-true _ _ (sym c.is_accepted.ensures ∙ c.if-not-is_accepted.false)
 
 -- what is paid is what was held and came in, less what is held now
 paid_within : (c : Else-not-is_accepted) → let s = c.args in sum (at (changed s.n s.grouping s.e s.p).pays) s.n ≤ s.held + receipt_cents s.e
@@ -31,7 +31,7 @@ period_answer-answer-requires c = (c.requires.in_book.sound, c.requires.fields)
 pub returns-then-not-is_accepted : goal.returns-then-not-is_accepted
 returns-then-not-is_accepted c =
     let s = c.before.before.before.before in
-    let ne = eqb-false _ _ (sym c.is_accepted.ensures ∙ not-true _ c.if-not-is_accepted.true) in
+    let ne = eqb-false _ _ (sym c.is_accepted.ensures ∙ c.if-not-is_accepted.true) in
     let a = c.period_answer-answer.ensures in
     sym (effect_refused s.args.n s.args.grouping s.args.e s.args.barred s.args.p s.args.held s.args.words.now (λ z. ne (a ∙ z))
     ∙ ap (λ (k : ℕ). record { answer = k; rounds = 0; period = s.args.p; held = s.args.held; paid = 0; words = s.args.words.now }) (sym a))

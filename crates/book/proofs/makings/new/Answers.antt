@@ -11,14 +11,14 @@ use Rattle.book.proofs.makings.new.Goals.{Else-not-is_accepted}
 
 -- the checks are passed
 passed : (c : Else-not-is_accepted) → eqb (refusal (making_checks c.args.m)) 0 ≡ true
-passed c = rw c.making_answer-answer.ensures at (sym c.is_accepted.ensures ∙ not-false _ c.if-not-is_accepted.false)
+passed c = rw c.making_answer-answer.ensures at (sym c.is_accepted.ensures ∙ c.if-not-is_accepted.false)
 
 pub returns-then-not-is_accepted : goal.returns-then-not-is_accepted
 unfolding made
 returns-then-not-is_accepted c =
     let t = c.before.before.before in
     let failed : eqb (refusal (making_checks t.args.m)) 0 ≡ false =
-    rw t.making_answer-answer.ensures at (sym t.is_accepted.ensures ∙ not-true _ c.if-not-is_accepted.true) in
+    rw t.making_answer-answer.ensures at (sym t.is_accepted.ensures ∙ c.if-not-is_accepted.true) in
     (t.making_answer-answer.ensures, c.empty_book-b.ensures ∙ rw (c.no_making.ensures, failed))
 
 pub kept-requires : goal.kept-requires

@@ -22,7 +22,7 @@ row c =
     }
 
 pub returns-then-not-is_noticed : goal.returns-then-not-is_noticed
-returns-then-not-is_noticed c = rw (sym c.is_noticed.ensures ∙ not-true _ c.if-not-is_noticed.true) (refl, refl)
+returns-then-not-is_noticed c = rw (sym c.is_noticed.ensures ∙ c.if-not-is_noticed.true) (refl, refl)
 
 pub excesses-unpaid-requires : goal.excesses-unpaid-requires
 excesses-unpaid-requires c = c.requires.bounded.few
@@ -33,7 +33,7 @@ minima-drawn-requires c = c.requires.bounded.few
 pub sums-moved-requires : goal.sums-moved-requires
 sums-moved-requires c =
     let s = c.before.before.before.before.before.before in
-    let noticed = noticed_stage s.args.p.stage (sym c.is_noticed.ensures ∙ not-false _ c.if-not-is_noticed.false) in
+    let noticed = noticed_stage s.args.p.stage (sym c.is_noticed.ensures ∙ c.if-not-is_noticed.false) in
     (s.requires.bounded.few, λ i h. let b = payable_bound s.args.n s.args.p s.requires noticed i h in omega (arith, (row c).reads i h, b.0, b.1))
 
 pub excesses-left-requires : goal.excesses-left-requires
@@ -43,5 +43,5 @@ pub returns : goal.returns
 returns c =
     let s = c.args in
     let r = row c.before.before in
-    rw (sym c.is_noticed.ensures ∙ not-false _ c.if-not-is_noticed.false)
+    rw (sym c.is_noticed.ensures ∙ c.if-not-is_noticed.false)
     (moved_row s.n _ _ r s.p _ c.sums-moved.ensures, left_row s.n _ _ r s.purses _ c.excesses-left.ensures)

@@ -24,52 +24,52 @@ last c =
     between 8 _ (above (above (above (above from_four six.0.0.1) six.0.1) six.1) c.in_default.rest.1) k.1
 
 pub word_at-requires : goal.word_at-requires
-word_at-requires c = rw c.in-1.keys1 at c.requires.1
+word_at-requires c = rw c.in-1.is at c.requires.1
 
 pub energy_at-requires : goal.energy_at-requires
-energy_at-requires c = rw c.in-2.keys2 at c.requires.1
+energy_at-requires c = rw c.in-2.is at c.requires.1
 
 pub amount_at-requires : goal.amount_at-requires
-amount_at-requires c = rw c.in-3.keys3 at c.requires.1
+amount_at-requires c = rw c.in-3.is at c.requires.1
 
 pub word_at-requires-in-4 : goal.word_at-requires-in-4
-word_at-requires-in-4 c = rw c.in-4.keys4 at c.requires.1
+word_at-requires-in-4 c = rw c.in-4.is at c.requires.1
 
 pub receipt_at-requires : goal.receipt_at-requires
-receipt_at-requires c = rw c.in-5.keys5 at c.requires.1
+receipt_at-requires c = rw c.in-5.is at c.requires.1
 
 pub word_at-requires-in-6 : goal.word_at-requires-in-6
-word_at-requires-in-6 c = rw c.in-6.keys6 at c.requires.1
+word_at-requires-in-6 c = rw c.in-6.is at c.requires.1
 
 pub purse_at-requires : goal.purse_at-requires
-purse_at-requires c = rw c.in-7.keys7 at c.requires.1
+purse_at-requires c = rw c.in-7.is at c.requires.1
 
 pub washup_at-requires : goal.washup_at-requires
 washup_at-requires c = rw (last c) at c.requires.1
 
 pub returns-in-1 : goal.returns-in-1
 unfolding entry_of fields_at
-returns-in-1 c = rw c.in-1.keys1 (ap Open c.word_at.ensures)
+returns-in-1 c = rw c.in-1.is (ap Open c.word_at.ensures)
 
 pub returns-in-2 : goal.returns-in-2
-returns-in-2 c = rw c.in-2.keys2 c.energy_at.ensures
+returns-in-2 c = rw c.in-2.is c.energy_at.ensures
 
 pub returns-in-3 : goal.returns-in-3
-returns-in-3 c = rw c.in-3.keys3 c.amount_at.ensures
+returns-in-3 c = rw c.in-3.is c.amount_at.ensures
 
 pub returns-in-4 : goal.returns-in-4
 unfolding entry_of fields_at
-returns-in-4 c = rw c.in-4.keys4 (ap Notice c.word_at-in-4.ensures)
+returns-in-4 c = rw c.in-4.is (ap Notice c.word_at-in-4.ensures)
 
 pub returns-in-5 : goal.returns-in-5
-returns-in-5 c = rw c.in-5.keys5 c.receipt_at.ensures
+returns-in-5 c = rw c.in-5.is c.receipt_at.ensures
 
 pub returns-in-6 : goal.returns-in-6
 unfolding entry_of fields_at
-returns-in-6 c = rw c.in-6.keys6 (ap Settle c.word_at-in-6.ensures)
+returns-in-6 c = rw c.in-6.is (ap Settle c.word_at-in-6.ensures)
 
 pub returns-in-7 : goal.returns-in-7
-returns-in-7 c = rw c.in-7.keys7 c.purse_at.ensures
+returns-in-7 c = rw c.in-7.is c.purse_at.ensures
 
 pub returns-in_default : goal.returns-in_default
 returns-in_default c = rw (last c.before) c.washup_at.ensures

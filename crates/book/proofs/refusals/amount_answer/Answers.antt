@@ -6,21 +6,21 @@ pub returns-then-n-i : goal.returns-then-n-i
 returns-then-n-i c = simp (le-leb _ _ c.if-n-i.true)
 
 pub returns-then-not-is_opened : goal.returns-then-not-is_opened
-returns-then-not-is_opened c = simp (lt-leb _ _ c.if-n-i.false, sym c.is_opened.ensures ∙ not-true _ c.if-not-is_opened.true)
+returns-then-not-is_opened c = simp (lt-leb _ _ c.if-n-i.false, sym c.is_opened.ensures ∙ c.if-not-is_opened.true)
 
 pub returns-then-misdated : goal.returns-then-misdated
 returns-then-misdated c =
     let b = c.before in
-    simp (lt-leb _ _ b.if-n-i.false, sym b.is_opened.ensures ∙ not-false _ b.if-not-is_opened.false, c.if-misdated.true)
+    simp (lt-leb _ _ b.if-n-i.false, sym b.is_opened.ensures ∙ b.if-not-is_opened.false, c.if-misdated.true)
 
 pub returns-then-total-cents-gt-SIDE_LIMIT : goal.returns-then-total-cents-gt-SIDE_LIMIT
 returns-then-total-cents-gt-SIDE_LIMIT c =
     let m = c.before in
     let b = m.before in
-    simp (lt-leb _ _ b.if-n-i.false, sym b.is_opened.ensures ∙ not-false _ b.if-not-is_opened.false, m.if-misdated.false, lt-ltb _ _ c.if-total-cents-gt-SIDE_LIMIT.true)
+    simp (lt-leb _ _ b.if-n-i.false, sym b.is_opened.ensures ∙ b.if-not-is_opened.false, m.if-misdated.false, lt-ltb _ _ c.if-total-cents-gt-SIDE_LIMIT.true)
 
 pub returns : goal.returns
 returns c =
     let m = c.before in
     let b = m.before in
-    simp (lt-leb _ _ b.if-n-i.false, sym b.is_opened.ensures ∙ not-false _ b.if-not-is_opened.false, m.if-misdated.false, le-ltb _ _ c.if-total-cents-gt-SIDE_LIMIT.false)
+    simp (lt-leb _ _ b.if-n-i.false, sym b.is_opened.ensures ∙ b.if-not-is_opened.false, m.if-misdated.false, le-ltb _ _ c.if-total-cents-gt-SIDE_LIMIT.false)

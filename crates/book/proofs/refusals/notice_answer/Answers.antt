@@ -8,7 +8,7 @@ returns-then-p c =
     let b = c.before.before.before in
     let s = b.requires in
     simp (
-      sym b.is_opened.ensures ∙ not-false _ b.if-not-is_opened.false,
+      sym b.is_opened.ensures ∙ b.if-not-is_opened.false,
       ne_eqb _ _ (rw (s.kept 0 (omega arith), s.kept 1 (omega arith)) at c.if-p.true),
     )
 
@@ -17,6 +17,6 @@ returns c =
     let b = c.before.before.before in
     let s = b.requires in
     simp (
-      sym b.is_opened.ensures ∙ not-false _ b.if-not-is_opened.false,
+      sym b.is_opened.ensures ∙ b.if-not-is_opened.false,
       eq-eqb _ _ (rw (s.kept 0 (omega arith), s.kept 1 (omega arith)) at c.if-p.false),
     )

@@ -44,16 +44,16 @@ pub receipt_answer-requires : goal.receipt_answer-requires
 receipt_answer-requires c =
     let s = c.before.before.before.before.before in
     let v = c.before.e.given.0 in
-    (receipt_inside v.0 v.1.0 v.1.1.0 (rw c.before.e.given.1 at s.requires.1)).0
+    (receipt_inside v.0 v.1.0 v.1.1.0 (rw c.in-Receipt.is at s.requires.1)).0
 
 pub returns-in-Notice : goal.returns-in-Notice
-returns-in-Notice c = c.notice_answer.ensures ∙ rw c.before.enum_told-1.given.1
+returns-in-Notice c = c.notice_answer.ensures ∙ rw c.in-Notice.is
 
 pub returns-in-Receipt : goal.returns-in-Receipt
-returns-in-Receipt c = c.receipt_answer.ensures ∙ rw c.before.before.e.given.1
+returns-in-Receipt c = c.receipt_answer.ensures ∙ rw c.in-Receipt.is
 
 pub returns-in-Settle : goal.returns-in-Settle
-returns-in-Settle c = c.settle_answer.ensures ∙ rw c.enum_told-in-Settle-1.given.1
+returns-in-Settle c = c.settle_answer.ensures ∙ rw c.in-Settle.is
 
 pub returns-in_default : goal.returns-in_default
 returns-in_default c =

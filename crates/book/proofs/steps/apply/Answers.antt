@@ -21,7 +21,7 @@ pub returns-then-not-is_allowed : goal.returns-then-not-is_allowed
 returns-then-not-is_allowed c =
     let s = c.before.before.before.before.before.before.before.before in
     refuses s.requires _ _ Outside _ c.refused-then-not-is_allowed.ensures
-    (rw (ne_eqb _ _ c.if-b-eq0.false, le-ltb _ _ c.if-words-b.false, sym c.is_allowed.ensures ∙ not-true _ c.if-not-is_allowed.true)) (λ z. omega (arith, z))
+    (rw (ne_eqb _ _ c.if-b-eq0.false, le-ltb _ _ c.if-words-b.false, sym c.is_allowed.ensures ∙ c.if-not-is_allowed.true)) (λ z. omega (arith, z))
 
 pub open_period-requires : goal.open_period-requires
 open_period-requires c =
@@ -30,7 +30,7 @@ open_period-requires c =
       record {
         some = omega (arith, c.if-b-eq0.false);
         enough = c.if-words-b.false;
-        fields = sym c.is_allowed.ensures ∙ not-false _ c.if-not-is_allowed.false;
+        fields = sym c.is_allowed.ensures ∙ c.if-not-is_allowed.false;
       },
       sym c.is_open.ensures ∙ c.if-is_open.true,
     )
@@ -43,7 +43,7 @@ raise_purse-requires c =
       record {
         some = omega (arith, o.if-b-eq0.false);
         enough = o.if-words-b.false;
-        fields = sym o.is_allowed.ensures ∙ not-false _ o.if-not-is_allowed.false;
+        fields = sym o.is_allowed.ensures ∙ o.if-not-is_allowed.false;
       },
       sym o.is_open.ensures ∙ o.if-is_open.false,
       sym c.before.before.is_purse_lem.ensures ∙ c.if-is_purse.true,
@@ -57,7 +57,7 @@ change_named-requires c =
       record {
         some = omega (arith, o.if-b-eq0.false);
         enough = o.if-words-b.false;
-        fields = sym o.is_allowed.ensures ∙ not-false _ o.if-not-is_allowed.false;
+        fields = sym o.is_allowed.ensures ∙ o.if-not-is_allowed.false;
       },
       sym o.is_open.ensures ∙ o.if-is_open.false,
       sym c.before.before.is_purse_lem.ensures ∙ c.if-is_purse.false,

@@ -21,13 +21,13 @@ opening : (c : Else-not-is_accepted) → let s = c.args in Opens (view s.b) (rec
 opening c =
     let a = c.before in
     let s = a.before.before.before.before in
-    opens _ _ s.requires.2 (sym (answered a) ∙ eqb-true _ _ (sym a.is_accepted.ensures ∙ not-false _ c.if-not-is_accepted.false))
+    opens _ _ s.requires.2 (sym (answered a) ∙ eqb-true _ _ (sym a.is_accepted.ensures ∙ c.if-not-is_accepted.false))
 
 pub returns-then-not-is_accepted : goal.returns-then-not-is_accepted
 returns-then-not-is_accepted c =
     let a = c.before.before in
     let s = a.before.before.before.before in
-    refuses s.requires.0 _ _ _ _ c.refused.ensures (to_open s.requires.0 _ _ s.requires.1 s.requires.2 ∙ sym (answered a)) (eqb-false _ _ (sym a.is_accepted.ensures ∙ not-true _ c.if-not-is_accepted.true))
+    refuses s.requires.0 _ _ _ _ c.refused.ensures (to_open s.requires.0 _ _ s.requires.1 s.requires.2 ∙ sym (answered a)) (eqb-false _ _ (sym a.is_accepted.ensures ∙ c.if-not-is_accepted.true))
 
 pub with_opened-next-requires : goal.with_opened-next-requires
 with_opened-next-requires c = let s = c.before.before.before.before.before.before in (s.requires.0, s.requires.1.enough, (opening c.before).room)
@@ -39,7 +39,7 @@ returns c =
     let s = e.before.before.before.before.before in
     let b = s.args.b in
     let answer = e.opening_answer-answer.result in
-    let number : number_of answer ≡ 0 = eqb-true _ _ (sym e.is_accepted.ensures ∙ not-false _ e.if-not-is_accepted.false) in
+    let number : number_of answer ≡ 0 = eqb-true _ _ (sym e.is_accepted.ensures ∙ e.if-not-is_accepted.false) in
     accepts s.requires.0 s.args.e s.args.words.now (opened (view b) (period_of s.args.e) s.args.words.now) (replied (record { answer = answer; rounds = 0; book = r.with_opened-next.result }) _)
     (to_open s.requires.0 _ _ s.requires.1 s.requires.2 ∙ sym (answered e.before) ∙ number)
     (accepted_opens (view b) _ (opening e))

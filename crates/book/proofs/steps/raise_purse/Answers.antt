@@ -30,7 +30,7 @@ raising : (c : Else-not-is_accepted) → let s = c.args in Raises (view s.b) (re
 raising c =
     let a = c.before in
     let s = a.before.before.before.before.before in
-    raises _ _ s.requires.2 s.requires.3 (sym (answered a) ∙ eqb-true _ _ (sym a.is_accepted.ensures ∙ not-false _ c.if-not-is_accepted.false))
+    raises _ _ s.requires.2 s.requires.3 (sym (answered a) ∙ eqb-true _ _ (sym a.is_accepted.ensures ∙ c.if-not-is_accepted.false))
 
 -- the participant has a purse, with room for the cents, and so has the book
 bounds : (c : Else-not-is_accepted) → let a = c.before in let s = a.args in
@@ -57,7 +57,7 @@ pub returns-then-not-is_accepted : goal.returns-then-not-is_accepted
 returns-then-not-is_accepted c =
     let a = c.before.before in
     let s = a.before.before.before.before.before in
-    refuses s.requires.0 _ _ _ _ c.refused.ensures (to_purse s.requires.0 _ _ s.requires.1 s.requires.2 s.requires.3 ∙ sym (answered a)) (eqb-false _ _ (sym a.is_accepted.ensures ∙ not-true _ c.if-not-is_accepted.true))
+    refuses s.requires.0 _ _ _ _ c.refused.ensures (to_purse s.requires.0 _ _ s.requires.1 s.requires.2 s.requires.3 ∙ sym (answered a)) (eqb-false _ _ (sym a.is_accepted.ensures ∙ c.if-not-is_accepted.true))
 
 pub overflow_add-b : goal.overflow_add-b
 overflow_add-b c = omega (arith, (bounds c.before.before.before.before).2)
@@ -83,7 +83,7 @@ returns c =
     let e = c.before.before.before.before.before in
     let a = e.before in
     let s = a.before.before.before.before.before in
-    let number : number_of a.purse_answer-answer.result ≡ 0 = eqb-true _ _ (sym a.is_accepted.ensures ∙ not-false _ e.if-not-is_accepted.false) in
+    let number : number_of a.purse_answer-answer.result ≡ 0 = eqb-true _ _ (sym a.is_accepted.ensures ∙ e.if-not-is_accepted.false) in
     (λ z. record {
       answer = number z;
       rounds = 0;

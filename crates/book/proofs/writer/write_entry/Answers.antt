@@ -13,7 +13,7 @@ use Rattle.book.proofs.writer.write_entry.Goals as goal
 use Rattle.book.proofs.writer.write_entry.Goals.{After-kind_of-kind, Else-not-is_allowed}
 
 ok : (c : Else-not-is_allowed) → allowed c.args.e ≡ true
-ok c = sym c.is_allowed.ensures ∙ not-false _ c.if-not-is_allowed.false
+ok c = sym c.is_allowed.ensures ∙ c.if-not-is_allowed.false
 
 sized : (c : After-kind_of-kind) → body_length c.kind_of-kind.result + 1 ≡ size c.args.e
 sized c = ap (λ (k : ℕ). body_length k + 1) c.kind_of-kind.ensures
@@ -21,7 +21,7 @@ sized c = ap (λ (k : ℕ). body_length k + 1) c.kind_of-kind.ensures
 pub returns-then-not-is_allowed : goal.returns-then-not-is_allowed
 unfolding writing written
 returns-then-not-is_allowed c =
-    let bad : allowed c.args.e ≡ false = sym c.is_allowed.ensures ∙ not-true _ c.if-not-is_allowed.true in
+    let bad : allowed c.args.e ≡ false = sym c.is_allowed.ensures ∙ c.if-not-is_allowed.true in
     (rw bad, rw bad)
 
 pub offset_bounds-kind : goal.offset_bounds-kind
