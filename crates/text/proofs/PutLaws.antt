@@ -1,10 +1,6 @@
 -- Bytes put one after the other.
-use Prim.Native.Nat.{ℕ, suc, ◌+◌, ◌≤◌}
-use mathlib.Core.Path.{◌≡◌, refl, ap, ◌∙◌}
-use mathlib.Core.List.{List, [], ◌∷◌, ◌++◌}
-use native.Mathlib.Omega.{arith}
-use lib.ListN.{length, set, length-append}
-use lib.Seq.{sets, sets-eq, length-sets, paste, take-length}
+use Rattle.std.proofs.Common.{◌≡◌, refl, ap, ◌∙◌, ℕ, suc, ◌+◌, ◌≤◌, List, [], ◌∷◌, ◌++◌, length, set, length-append, arith}
+use Rattle.std.proofs.Math.Seq.{sets, sets-eq, length-sets, paste, take-length}
 use Rattle.text.specs.Puts.{Puts}
 
 -- all of a list copied is that list put

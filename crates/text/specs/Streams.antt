@@ -1,6 +1,5 @@
 -- Input that is read in pieces, and counts of what was read and written.
-use Rattle.std.specs.Prelude.{ℕ, ◌+◌, ◌-◌, ◌^◌, ◌≤◌, ◌<◌, min, ◌≡◌, Bool, true, false, cond, List, eqb, ℤ, pos, length, take}
-use Rattle.std.specs.Int.Signed.{lt_z}
+use Rattle.std.specs.Prelude.{ℕ, ◌+◌, ◌-◌, ◌^◌, ◌≤◌, ◌<◌, min, ◌≡◌, ◌==◌, Bool, true, false, cond, List, Result, Ok, Err, length, take}
 use Rattle.text.specs.declared.streams.Last.{Last}
 use Rattle.text.specs.declared.streams.Last.TheVariants.{More, Ended, Failed}
 use Rattle.text.specs.declared.streams.Fetched.{Fetched}
@@ -20,9 +19,10 @@ is_failed More = false
 is_failed Ended = false
 is_failed Failed = true
 
--- what a read left of which C answered `got`, by how many bytes came; C answers -1 where it fails
-unfoldable pub last_of : ℤ → ℕ → Last
-last_of got more = cond (eqb more 0) (cond (lt_z got (pos 0)) Failed Ended) More
+-- what a read left that answered `got`: how many bytes came, or that it failed
+abbrev pub last_of : {E : Type 0} → Result ℕ E → Last
+last_of (Ok more) = cond (more == 0) Ended More
+last_of (Err _) = Failed
 
 -- how many bytes came, by what a read left
 abbrev pub Came : Last → ℕ → Type 0

@@ -4,7 +4,8 @@ ghost use Rattle.text.specs.Blocks.{kept};
 
 // The bytes from one place up to another.
 pub fn part(block: &[u8], from: usize, to: usize) -> &[u8]
-    requires { (from ≤ to) × (to ≤ length block.now) }
+    requires ordered { from ≤ to }
+    requires within { to ≤ length block.now }
     ensures { result.now ≡ take (to - from) (drop from block.now) }
 {
     &block[from..to]
@@ -13,7 +14,8 @@ pub fn part(block: &[u8], from: usize, to: usize) -> &[u8]
 // Moves the bytes from one place up to another to the front; answers how many they are.
 pub fn keep(block: &mut [u8], from: usize, to: usize) -> usize
     requires { to ≤ length block.old }
-    ensures { (result ≡ to - from) × (block.new ≡ kept block.old from (to - from)) }
+    ensures count { result ≡ to - from }
+    ensures moved { block.new ≡ kept block.old from (to - from) }
 {
     let mut i = 0;
     while from < to - i {

@@ -1,4 +1,6 @@
-// What the programs read and write with: text put into lent bytes, blocks of bytes, and standard streams.
+// What the programs read and write with: text put into lent bytes, blocks of bytes, and streams.
+#![tactic(auto)]
+
 mod blocks;
 mod numbers;
 mod puts;

@@ -1,17 +1,18 @@
-// Standard input, output and error. The fields of a stream are private: only these functions count bytes, or say that an
-// input ended or failed. A caller makes each stream once, and hands each call the one that the call before gave.
+// Inputs and outputs. The fields of a stream are private: only these functions count bytes, or say that an input ended or
+// failed. A caller makes each stream once, and hands each call the one that the call before gave, with its reader or writer.
 ghost use Rattle.std.specs.Prelude.{◌+◌, ◌^◌, ◌≤◌, ◌<◌, min, ◌≡◌, true, length};
 ghost use Rattle.text.specs.Streams.{most, is_ended, is_failed, last_of, Fetches};
 ghost use Rattle.text.specs.declared.streams.Last.TheVariants.{More};
 
-use libc::{STDERR_FILENO, STDIN_FILENO, STDOUT_FILENO};
+use std::io;
+use std::io::{Read, Write};
 
 // The largest number of 64 bits.
 const MOST: u64 = 0xffff_ffff_ffff_ffff;
 
 // What the last read left: more bytes than before, the end of the input, or nothing, since it failed. More where nothing was
 // read yet.
-#[derive(Drop)]
+#[derive(Clone, Copy)]
 pub enum Last {
     More,
     Ended,
@@ -19,21 +20,21 @@ pub enum Last {
 }
 
 // An input: how many bytes were read of it, or the largest number of 64 bits where that is less, and what the last read left.
-#[derive(Drop)]
+#[derive(Clone, Copy)]
 pub struct Input {
     total: u64,
     last: Last,
 }
 
-// Standard output: how many bytes were handed over for writing, counted alike, and whether all of them were written.
-#[derive(Drop)]
+// An output: how many bytes were handed over for writing, counted alike, and whether all of them were written.
+#[derive(Clone, Copy)]
 pub struct Output {
     total: u64,
     all: bool,
 }
 
-// The same of standard error, a type of its own, so that neither can stand for the other.
-#[derive(Drop)]
+// The same of what tells of errors, a type of its own, so that neither can stand for the other.
+#[derive(Clone, Copy)]
 pub struct Errors {
     total: u64,
     all: bool,
@@ -91,7 +92,7 @@ pub fn is_written(o: Output) -> bool
 }
 
 // An input after a read, and how many bytes of the block there are then.
-#[derive(Drop)]
+#[derive(Clone, Copy)]
 pub struct Fetched {
     pub input: Input,
     pub filled: usize,
@@ -108,64 +109,68 @@ fn counted(total: u64, more: usize) -> u64
     total + n
 }
 
-// What a read left of which C answered `got`, by how many bytes came.
-fn last_of(got: isize, more: usize) -> Last
-    ensures { result ≡ last_of got more }
+// What a read left that answered `got`.
+fn last_of(got: io::Result<usize>) -> Last
+    ensures { result ≡ last_of got }
 {
-    if more != 0 {
-        return Last::More;
+    match got {
+        Ok(0) => Last::Ended,
+        Ok(_) => Last::More,
+        Err(_) => Last::Failed,
     }
-    if got < 0 {
-        return Last::Failed;
-    }
-    Last::Ended
 }
 
-// The input after a read of which C answered `got`, and that brought so many bytes behind the first `filled`.
-fn taken(i: Input, got: isize, filled: usize, more: usize) -> Fetched
+// The input after a read that answered `got`, and that brought so many bytes behind the first `filled`.
+fn taken(i: Input, got: io::Result<usize>, filled: usize, more: usize) -> Fetched
     requires { filled + more < 2 ^ 64 }
-    ensures { result ≡ record { input = record { total = min (i.total + more) most; last = last_of got more }; filled = filled + more } }
+    ensures { result ≡ record { input = record { total = min (i.total + more) most; last = last_of got }; filled = filled + more } }
 {
     Fetched {
         input: Input {
             total: counted(i.total, more),
-            last: last_of(got, more),
+            last: last_of(got),
         },
         filled: filled + more,
     }
 }
 
-// Reads once from standard input, behind the first `filled` bytes. There is room behind them, so that a read of no byte is
-// the end of the input. The contract counts the bytes that came; that they are those which C read is to be read here.
-pub fn read_more(i: Input, block: &mut [u8], filled: usize) -> Fetched
-    requires { (i.last ≡ More) × (filled < length block.old) }
+// Reads once, behind the first `filled` bytes. There is room behind them, so that a read of no byte is the end of the input.
+// The contract counts the bytes that came; that they are those which the reader gave is to be read here.
+pub fn read_more<R: Read>(from: &mut R, i: Input, block: &mut [u8], filled: usize) -> Fetched
+    requires more { i.last ≡ More }
+    requires room { filled < length block.old }
     ensures { Fetches i.total block.old filled block.new result }
 {
-    let rest = &mut block[filled..];
-    let got = libc::read(STDIN_FILENO, rest);
-    let more = io::count(got, rest);
+    let got = from.read(&mut block[filled..]);
+    let more = got.unwrap_or(0);
     taken(i, got, filled, more)
 }
 
-// Writes the first `count` bytes to standard output. The contract counts them; that these bytes and no others are handed over
-// is to be read here.
-pub fn write_out(o: Output, block: &[u8], count: usize) -> Output
-    requires { (o.all ≡ true) × (count ≤ length block.now) }
+// Hands all of the bytes over; answers whether the writer took them and flushed what it had kept back.
+fn write_all<W: Write>(to: &mut W, bytes: &[u8]) -> bool {
+    to.write_all(bytes).is_ok() && to.flush().is_ok()
+}
+
+// Writes the first `count` bytes to an output. The contract counts them; that these bytes and no others are handed over is to
+// be read here.
+pub fn write_out<W: Write>(to: &mut W, o: Output, block: &[u8], count: usize) -> Output
+    requires all { o.all ≡ true }
+    requires within { count ≤ length block.now }
     ensures { result.total ≡ min (o.total + count) most }
 {
-    let all = io::write_all(STDOUT_FILENO, &block[0..count]);
+    let all = write_all(to, &block[0..count]);
     Output {
         total: counted(o.total, count),
         all,
     }
 }
 
-// Writes the first `count` bytes to standard error.
-pub fn write_error(block: &[u8], count: usize) -> Errors
+// Writes the first `count` bytes of what tells of errors.
+pub fn write_error<W: Write>(to: &mut W, block: &[u8], count: usize) -> Errors
     requires { count ≤ length block.now }
     ensures { result.total ≡ min count most }
 {
-    let all = io::write_all(STDERR_FILENO, &block[0..count]);
+    let all = write_all(to, &block[0..count]);
     Errors {
         total: counted(0, count),
         all,
