@@ -1,4 +1,7 @@
 // Lists a feed from standard input in a demonstration book, and tells on standard error where that failed.
-fn main() {
-    lister::tell(lister::list(book::demonstration()));
+#![tactic(auto)]
+
+fn main(rt: HostRuntime) {
+    let ending = lister::list(&mut rt.stdin(), &mut rt.stdout(), book::demonstration());
+    lister::tell(&mut rt.stderr(), ending);
 }

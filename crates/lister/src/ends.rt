@@ -4,10 +4,11 @@ ghost use Rattle.text.specs.Puts.{Puts};
 ghost use Rattle.lister.specs.Messages.{message};
 ghost use Rattle.lister.specs.inner.Blocks.{why_ended};
 
+use std::io::Write;
 use text::{Errors, Input, Output, has_ended, has_failed, put_bytes, write_error};
 
 // Why a listing ended: at bytes that cannot be read as an entry, at the end of the input, with its turns used up, or where
-// standard input or output failed.
+// the input or the output failed.
 #[derive(Clone, Copy)]
 pub enum End {
     Unread,
@@ -69,19 +70,19 @@ fn put_message(out: &mut Message, why: End) -> usize
     }
 }
 
-// Writes the message of an end to standard error.
-fn write_message(out: &mut Message, why: End) -> Errors
+// Writes the message of an end to where errors are told.
+fn write_message<W: Write>(to: &mut W, out: &mut Message, why: End) -> Errors
     ensures { Puts out.old 0 (message why) out.new result.total }
 {
     let count = put_message(out, why);
-    write_error(out, count)
+    write_error(to, out, count)
 }
 
-// Tells on standard error that standard input or output failed, or that the turns are used up.
-pub fn tell(e: Ending) -> Errors
+// Tells that standard input or output failed, or that the turns are used up.
+pub fn tell<W: Write>(to: &mut W, e: Ending) -> Errors
     ensures { result.total ≡ length (message e.why) }
 {
     let mut out = [0u8; MESSAGE];
     let why = e.why;
-    write_message(&mut out, why)
+    write_message(to, &mut out, why)
 }

@@ -1,5 +1,5 @@
-// The input, block after block. No contract can say what the C library delivers or writes, so that the bytes which were
-// read are those listed, and those listed the ones written, is to be read here.
+// The input, block after block. The contracts count the bytes: that those which were read are those listed, and those listed
+// the ones written, is to be read here.
 ghost use Rattle.std.specs.Prelude.{◌≡◌};
 ghost use Rattle.lister.specs.Listing.{book_for, lent};
 ghost use Rattle.lister.specs.Sessions.{Session};
@@ -10,6 +10,7 @@ use crate::ends::{End, Ending, ended_by, why_ended};
 use crate::lines::{WORDS, Words, put_header};
 use crate::runs::{LINES, Lines};
 use book::{Book, Limits};
+use std::io::{Read, Write};
 use text::{
     Fetched, Output, has_ended, has_failed, is_written, keep, part, read_more, unread, unwritten,
     write_out,
@@ -40,7 +41,9 @@ fn first_book(limits: Limits, n: u8) -> Book
 
 // Lists block after block, in a book for n, which is the first byte. Each turn lists, writes out what was listed and, where the
 // bytes left are short, moves them to the front and reads behind them.
-fn list_blocks(
+fn list_blocks<R: Read, W: Write>(
+    from: &mut R,
+    to: &mut W,
     limits: Limits,
     read: Fetched,
     headed: Output,
@@ -63,7 +66,7 @@ fn list_blocks(
         let ended = has_ended(input);
         let t = list_block(s, part(feed, 0, filled), ended, out, words, lines);
         s = t;
-        let w = write_out(output, out, s.wrote);
+        let w = write_out(to, output, out, s.wrote);
         output = w;
         if !is_written(output) {
             return ended_by(End::NotWritten, turns, input, output);
@@ -74,7 +77,7 @@ fn list_blocks(
             Next::Read => {
                 filled = keep(feed, s.place, filled);
                 s.place = 0;
-                let r = read_more(input, feed, filled);
+                let r = read_more(from, input, feed, filled);
                 filled = r.filled;
                 let i = r.input;
                 input = i;
@@ -89,7 +92,9 @@ fn list_blocks(
 }
 
 // Writes the header, reads n and lists the entries behind it.
-fn list_input(
+fn list_input<R: Read, W: Write>(
+    from: &mut R,
+    to: &mut W,
     limits: Limits,
     feed: &mut Block,
     out: &mut Out,
@@ -100,25 +105,27 @@ fn list_input(
     ensures { Session limits result }
 {
     let headed = put_header(out, 0);
-    let output = write_out(unwritten(), out, headed);
+    let output = write_out(to, unwritten(), out, headed);
     if !is_written(output) {
         return ended_by(End::NotWritten, 0, unread(), output);
     }
-    let read = read_more(unread(), feed, 0);
+    let read = read_more(from, unread(), feed, 0);
     if read.filled == 0 {
         let input = read.input;
         return ended_by(why_ended(input), 0, input, output);
     }
-    list_blocks(limits, read, output, feed, out, words, lines)
+    list_blocks(from, to, limits, read, output, feed, out, words, lines)
 }
 
-// Lists standard input on standard output, in a book of these limits.
-pub fn list(limits: Limits) -> Ending
+// Lists an input on an output, in a book of these limits.
+pub fn list<R: Read, W: Write>(from: &mut R, to: &mut W, limits: Limits) -> Ending
     ensures { Session limits result }
 {
     let mut feed = [0u8; BLOCK];
     let mut out = [0u8; OUT];
     let mut words = [0u64; WORDS];
     let mut lines = [0u64; LINES];
-    list_input(limits, &mut feed, &mut out, &mut words, &mut lines)
+    list_input(
+        from, to, limits, &mut feed, &mut out, &mut words, &mut lines,
+    )
 }

@@ -1,4 +1,6 @@
-// Lists a feed: n as one byte, then entries, from standard input; a line for each entry, and one for each payout.
+// Lists a feed: n as one byte, then entries, from an input; a line for each entry, and one for each payout.
+#![tactic(auto)]
+
 mod blocks;
 mod ends;
 mod inputs;

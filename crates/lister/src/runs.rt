@@ -23,7 +23,7 @@ fn put_lines(out: &mut [u8], place: usize, first: u64, lines: &Lines, count: usi
     let mut next = place;
     for i in 0..count {
         let k = i * LINE;
-        let number = std::num::wrapping_add_u64(first, i as u64);
+        let number = first.wrapping_add(i as u64);
         next = put_line(out, next, number, lines[k], lines[k + 1], lines[k + 2]);
     }
     next
@@ -87,7 +87,7 @@ pub fn list_runs(
             break;
         }
         wrote = put_run(out, wrote, number, lines, count, words);
-        number = std::num::wrapping_add_u64(number, count as u64);
+        number = number.wrapping_add(count as u64);
     }
     Standing {
         book: b,

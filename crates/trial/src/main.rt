@@ -1,4 +1,6 @@
 // Calls the book's functions as standard input says, also with what no feed can hand them; a line for each call.
+#![tactic(auto)]
+
 mod calling;
 mod calls;
 mod lines;
@@ -9,6 +11,7 @@ ghost use Rattle.book.specs.rules.Valid.{Valid};
 use book::Book;
 use calling::{BLOCK, call};
 use calls::{call_at, is_stop, length_of};
+use std::io::{Read, Write};
 use text::{is_written, keep, part, read_more, unread, unwritten, write_out};
 
 // The bytes that are kept of the input: more than the longest call.
@@ -18,7 +21,13 @@ const CALLS: usize = 131072;
 const TURNS: u64 = 0xffff_ffff_ffff_ffff;
 
 // Makes the calls one after the other, and writes out each line before the next call.
-fn call_all(first: Book, bytes: &mut [u8; CALLS], out: &mut [u8; BLOCK])
+fn call_all<R: Read, W: Write>(
+    from: &mut R,
+    to: &mut W,
+    first: Book,
+    bytes: &mut [u8; CALLS],
+    out: &mut [u8; BLOCK],
+)
     requires { Valid first }
 {
     let mut b = first;
@@ -41,7 +50,7 @@ fn call_all(first: Book, bytes: &mut [u8; CALLS], out: &mut [u8; BLOCK])
             if CALLS <= filled {
                 break;
             }
-            let r = read_more(input, bytes, filled);
+            let r = read_more(from, input, bytes, filled);
             if r.filled == filled {
                 break;
             }
@@ -52,7 +61,7 @@ fn call_all(first: Book, bytes: &mut [u8; CALLS], out: &mut [u8; BLOCK])
             let r = call(b, c, part(bytes, place, filled), out);
             let left = r.book;
             b = left;
-            let w = write_out(output, out, r.wrote);
+            let w = write_out(to, output, out, r.wrote);
             output = w;
             if !is_written(output) {
                 break;
@@ -62,11 +71,17 @@ fn call_all(first: Book, bytes: &mut [u8; CALLS], out: &mut [u8; BLOCK])
     }
 }
 
-fn main() {
+fn main(rt: HostRuntime) {
     let mut bytes = [0u8; CALLS];
     let mut out = [0u8; BLOCK];
     let m = book::separate(0, book::market());
     let made = book::new(m);
     let first = made.book;
-    call_all(first, &mut bytes, &mut out);
+    call_all(
+        &mut rt.stdin(),
+        &mut rt.stdout(),
+        first,
+        &mut bytes,
+        &mut out,
+    );
 }
