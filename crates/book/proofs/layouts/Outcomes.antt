@@ -5,19 +5,17 @@ use mathlib.Core.Bool.{cond}
 use mathlib.Core.List.{List, [], ◌∷◌}
 use lib.Dec.{eqb}
 use lib.ListN.{get_or}
-use types.Run.{OneOf, miss}
-use denote.Enum.Declared.{tag_of}
 use Rattle.book.specs.rules.Answers.{number_of}
 use Rattle.book.specs.layouts.Reading.{ReadOutcome, read_outcome}
 use Rattle.book.specs.layouts.Writing.{WriteOutcome, write_outcome}
 use Rattle.book.specs.declared.answers.Answer.{Answer}
 use Rattle.book.specs.declared.answers.Answer.TheVariants as answer
+use Rattle.book.specs.declared.entries.Entry.{Entry}
 use Rattle.book.specs.declared.entries.Entry.TheVariants.{Open}
 use Rattle.book.specs.declared.reader.Reading.{Reading}
 use Rattle.book.specs.declared.reader.Reading.TheVariants as reading
 use Rattle.book.specs.declared.writer.Writing.{Writing}
 use Rattle.book.specs.declared.writer.Writing.TheVariants as writing
-use Rattle.book.specs.contracts.reader.Reading.{the_type}
 
 abbrev reading_of : ReadOutcome → Reading
 reading_of o =
@@ -33,12 +31,12 @@ read_again place reading.Outside = refl
 pub read_one_to_one : (place : ℕ) (a b : Reading) → read_outcome place a ≡ read_outcome place b → a ≡ b
 read_one_to_one place a b e = sym (read_again place a) ∙ ap reading_of e ∙ read_again place b
 
--- an answer in the last arm of a match that has one for an entry that was found
-pub not_found : (place : ℕ) (a : Reading) → OneOf (1 ∷ 2 ∷ 3 ∷ []) (tag_of the_type a) → (read_outcome place a).entry ≡ []
-not_found place (reading.Found entry next) one = absurd (miss (1 ∷ 2 ∷ 3 ∷ []) 0 (tt {0}) one)
-not_found place reading.Short one = refl
-not_found place reading.Unknown one = refl
-not_found place reading.Outside one = refl
+-- an answer that is not of an entry that was found has none
+pub not_found : (place : ℕ) (a : Reading) → ((e : Entry) (next : ℕ) → a ≡ reading.Found e next → ⊥) → (read_outcome place a).entry ≡ []
+not_found place (reading.Found entry next) other = absurd (other entry next refl)
+not_found place reading.Short other = refl
+not_found place reading.Unknown other = refl
+not_found place reading.Outside other = refl
 
 abbrev writing_of : WriteOutcome → Writing
 writing_of o = cond (eqb o.answer 0) (writing.Wrote o.count) (cond (eqb o.answer 3) writing.Outside writing.NoRoom)

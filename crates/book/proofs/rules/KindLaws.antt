@@ -7,45 +7,14 @@ use native.Mathlib.Omega.{arith}
 use borrow.Author.Tests.{eqb-true, eq-eqb, ne_eqb}
 use lib.Dec.{T, eqb}
 use lib.ListN.{length}
-use mir.Val.{has_key}
-use types.Run.{OneOf, miss}
-use denote.Enum.Declared.{tag_of}
-use Rattle.book.specs.layouts.Entries.{body_lengths, kind_of}
+use Rattle.book.specs.layouts.Entries.{kind_of, fields_of, entry_of}
 use Rattle.book.specs.rules.Kinds.{is_purse, is_receipt, is_settle, period_of, names, EveryKind}
 use Rattle.book.specs.declared.entries.Entry.{Entry}
-use Rattle.book.specs.declared.entries.Entry.TheVariants.{Open, Energy, Amount, Notice, Receipt, Settle, Purse, Washup}
-use Rattle.book.specs.contracts.entries.Entry.{the_type}
-use Rattle.book.proofs.layouts.EntryLaws.{each_kind, kind_known}
+use Rattle.book.proofs.layouts.EntryLaws.{of_kind, each_kind, kind_known}
 
--- kinds are numbered in the order of the variants
-pub tag_kind : (e : Entry) → suc (tag_of the_type e) ≡ kind_of e
-tag_kind (Open _) = refl
-tag_kind (Energy _ _ _ _ _) = refl
-tag_kind (Amount _ _ _ _ _) = refl
-tag_kind (Notice _) = refl
-tag_kind (Receipt _ _ _) = refl
-tag_kind (Settle _) = refl
-tag_kind (Purse _ _) = refl
-tag_kind (Washup _ _ _ _ _ _ _) = refl
-
--- the tags of all kinds but these
-abbrev below : ℕ → List ℕ
-below zero = []
-below (suc n) = below n ++ (n ∷ [])
-
-abbrev without : ℕ → List ℕ → List ℕ
-without k [] = []
-without k (x ∷ l) = cond (eqb x k) (without k l) (x ∷ without k l)
-
-abbrev pub others : List ℕ → List ℕ
-others [] = below (length body_lengths - 1)
-others (k ∷ ks) = without k (others ks)
-
--- an entry in the last arm is of none of the kinds that have an arm of their own
-pub not_kind : (ks : List ℕ) (k : ℕ) (e : Entry) → T (not (has_key (others ks) k)) → OneOf (others ks) (tag_of the_type e) → eqb (kind_of e) (suc k) ≡ false
-not_kind ks k e none one = ne_eqb (kind_of e) (suc k) (λ q.
-    let same : tag_of the_type e ≡ k = omega (arith, tag_kind e, q) in
-    miss (others ks) k none (subst (OneOf (others ks)) same one))
+-- an entry that is not made of its fields as one of kind k is none of kind k
+pub not_kind : (k : ℕ) (e : Entry) → (e ≡ entry_of k (fields_of e) → ⊥) → eqb (kind_of e) k ≡ false
+not_kind k e other = ne_eqb (kind_of e) k (λ q. other (of_kind (λ (x : Entry). x ≡ entry_of k (fields_of e)) k e q refl))
 
 pub every_kind : EveryKind
 every_kind e = each_kind

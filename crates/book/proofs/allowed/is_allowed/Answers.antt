@@ -2,7 +2,6 @@ use Prim.Native.Nat.{ℕ}
 use mathlib.Core.Path.{sym, ap, ◌∙◌}
 use mathlib.Core.List.{List, [], ◌∷◌}
 use Rattle.book.specs.layouts.Allowed.{allowed}
-use Rattle.book.proofs.rules.KindLaws.{not_kind}
 use Rattle.book.proofs.allowed.is_allowed.Goals as goal
 
 pub returns-in-Energy : goal.returns-in-Energy
@@ -19,16 +18,3 @@ returns-in-Purse c = c.receipt_allowed-in-Purse.ensures ∙ sym (ap allowed c.in
 
 pub returns-in-Washup : goal.returns-in-Washup
 returns-in-Washup c = c.washup_allowed.ensures ∙ sym (ap allowed c.in-Washup.is)
-
-pub returns-in_default : goal.returns-in_default
-returns-in_default c =
-    let e = c.args.e in
-    let own : List ℕ = 1 ∷ 2 ∷ 4 ∷ 6 ∷ 7 ∷ [] in
-    let left = c.in_default.keys6 in
-    rw (
-      not_kind own 1 e (tt {0}) left,
-      not_kind own 2 e (tt {0}) left,
-      not_kind own 4 e (tt {0}) left,
-      not_kind own 6 e (tt {0}) left,
-      not_kind own 7 e (tt {0}) left,
-    )

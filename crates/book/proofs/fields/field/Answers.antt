@@ -1,24 +1,23 @@
 -- The loop reads from the last byte down: the bytes passed make the number v, which leaves room for one more byte.
 use native.Mathlib.Omega.{arith}
 use mathlib.Core.Path.{◌≡◌}
-use Prim.Native.Nat.{◌-◌, ◌^◌, ◌<◌}
+use Prim.Native.Nat.{ℕ, ◌-◌, ◌^◌, ◌<◌, ◌≤◌}
 use native.Mathlib.Nat.{pow-le-pow_right, le_refl, sub_self, add-zero, sub-zero}
 use Rattle.book.proofs.layouts.FieldLaws.{value_none, value_step}
 use Rattle.book.proofs.fields.field.Goals as goal
-use Rattle.book.proofs.fields.field.Goals.{At-loop-i}
 
-small : (c : At-loop-i) → 0 < c.loop-i.i → c.loop-i.v < 2 ^ 56
-small c h =
-    omega (arith, pow-le-pow_right {n = 256} (omega arith) {i = c.args.k - c.loop-i.i} {j = 7} (omega arith))
+-- fewer than all bytes are passed, and they make a number of 7 bytes at most
+small : {k i v : ℕ} → k ≤ 8 → 0 < i → v < 256 ^ (k - i) → v < 2 ^ 56
+small {k = k} {i = i} few h below = omega (arith, pow-le-pow_right {n = 256} (omega arith) {i = k - i} {j = 7} (omega arith))
 
 pub loop-i-init : goal.loop-i-init
 loop-i-init c = (le_refl _, rw sub_self (value_none _ _), rw sub_self (omega arith))
 
 pub overflow_mul-v : goal.overflow_mul-v
-overflow_mul-v c = omega (arith, small c.before c.loop-i-test.true)
+overflow_mul-v c = omega (arith, small c.requires.0 c.loop-i-test.true c.loop-i.invariant.2)
 
 pub overflow_add-v : goal.overflow_add-v
-overflow_add-v c = omega (arith, small c.before.before.before c.loop-i-test.true)
+overflow_add-v c = omega (arith, small c.requires.0 c.loop-i-test.true c.loop-i.invariant.2)
 
 pub loop-i-preserved : goal.loop-i-preserved
 loop-i-preserved c =

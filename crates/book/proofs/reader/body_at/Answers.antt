@@ -8,20 +8,9 @@ use Rattle.book.proofs.layouts.EntryLaws.{known}
 use Rattle.book.proofs.reader.body_at.Goals as goal
 use Rattle.book.proofs.reader.body_at.Goals.{In_default}
 
-above : {m k : ℕ} → m ≤ k → (k ≡ m → ⊥) → suc m ≤ k
-above l ne = omega (arith, l, ne)
-
-between : (m k : ℕ) → m ≤ k → k < suc m → k ≡ m
-between m k l h = omega (arith, l, h)
-
 -- a known kind without an arm of its own is the last
 last : (c : In_default) → c.args.kind ≡ 8
-last c =
-    let k = known c.args.kind c.requires.0 in
-    let six = c.in_default.rest.0 in
-    let three = six.0.0.0 in
-    let from_four = above (above (above k.0 three.0.0.1) three.0.1) three.1 in
-    between 8 _ (above (above (above (above from_four six.0.0.1) six.0.1) six.1) c.in_default.rest.1) k.1
+last c = omega (arith, known c.args.kind c.requires.0, c.in_default)
 
 pub word_at-requires : goal.word_at-requires
 word_at-requires c = rw c.in-1.is at c.requires.1

@@ -42,9 +42,8 @@ returns-then-is_amount c =
 
 pub receipt_answer-requires : goal.receipt_answer-requires
 receipt_answer-requires c =
-    let s = c.before.before.before.before.before in
-    let v = c.before.e.given.0 in
-    (receipt_inside v.0 v.1.0 v.1.1.0 (rw c.in-Receipt.is at s.requires.1)).0
+    let v = c.in-Receipt in
+    (receipt_inside v.period v.participant v.cents (rw c.in-Receipt.is at c.requires.1)).0
 
 pub returns-in-Notice : goal.returns-in-Notice
 returns-in-Notice c = c.notice_answer.ensures ∙ rw c.in-Notice.is
@@ -56,8 +55,13 @@ pub returns-in-Settle : goal.returns-in-Settle
 returns-in-Settle c = c.settle_answer.ensures ∙ rw c.in-Settle.is
 
 pub returns-in_default : goal.returns-in_default
+unfolding entry_of
 returns-in_default c =
-    let a = c.before.before in
-    let e = a.args.e in
-    let left = c.in_default.keys4 in
-    rw (sym a.is_amount.ensures ∙ c.if-is_amount.false, not_kind (3 ∷ 4 ∷ 5 ∷ []) 3 e (tt {0}) left, not_kind (3 ∷ 4 ∷ 5 ∷ []) 4 e (tt {0}) left, not_kind (3 ∷ 4 ∷ 5 ∷ []) 5 e (tt {0}) left)
+    let e = c.args.e in
+    let own = c.in_default in
+    rw (
+      sym c.is_amount.ensures ∙ c.if-is_amount.false,
+      not_kind 4 e (λ q. own.not-Notice _ q),
+      not_kind 5 e (λ q. own.not-Receipt _ _ _ q),
+      not_kind 6 e (λ q. own.not-Settle _ q),
+    )

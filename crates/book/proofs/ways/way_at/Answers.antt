@@ -5,18 +5,12 @@ use Rattle.book.proofs.layouts.Outcomes.{not_found}
 use Rattle.book.proofs.runs.RunLaws.{read_allowed}
 use Rattle.book.proofs.runs.RunTurns.{decides}
 use Rattle.book.proofs.ways.way_at.Goals as goal
-use Rattle.book.proofs.ways.way_at.Goals.{In-Found}
-
--- the entry that was read
-read : (c : In-Found) → let s = c.args in
-    reading s.bytes.now s.place ≡ record { answer = 0; place = c.before.entry.given.0.1.0; entry = c.before.entry.given.0.0 ∷ [] }
-read c = sym c.read_next.ensures ∙ ap (read_outcome c.args.place) c.before.entry.given.1
 
 pub way_of-requires : goal.way_of-requires
-way_of-requires c = (c.requires, read_allowed _ _ _ (ap (λ (o : ReadOutcome). o.entry) (read c)))
+way_of-requires c = (c.requires, read_allowed _ _ _ (ap (λ (o : ReadOutcome). o.entry) (sym c.in-Found.ensures)))
 
 pub returns-in-Found : goal.returns-in-Found
-returns-in-Found c = let s = c.args in decides s.b _ _ s.room _ _ (read c.before) c.way_of.result c.way_of.ensures
+returns-in-Found c = let s = c.args in decides s.b _ _ s.room _ _ (sym c.in-Found.ensures) c.way_of.result c.way_of.ensures
 
 pub returns-in_default : goal.returns-in_default
-returns-in_default c = sym (ap (λ (o : ReadOutcome). o.entry) c.read_next.ensures) ∙ not_found c.args.place c.read_next.result c.in_default.keys2
+returns-in_default c = sym (ap (λ (o : ReadOutcome). o.entry) c.read_next.ensures) ∙ not_found c.args.place c.read_next.result (λ e next q. c.in_default.not-Found e next q)

@@ -11,10 +11,10 @@ pub put-requires : goal.put-requires
 put-requires c = simp length-set (omega (arith, c.requires))
 
 pub put-requires-2 : goal.put-requires-2
-put-requires-2 c = let k = simp length-set at c.put.auto.0 in omega (arith, k, c.requires)
+put-requires-2 c = let k = simp length-set at c.put.auto.out in omega (arith, k, c.requires)
 
 pub shape_of-out : goal.shape_of-out
-shape_of-out c = simp length-set at (c.put-2.auto.0 ∙ c.put.auto.0)
+shape_of-out c = simp length-set at (c.put-2.auto.out ∙ c.put.auto.out)
 
 pub returns : goal.returns
 unfolding bytes_of

@@ -5,18 +5,15 @@ use mathlib.Core.Bool.{true, false}
 use Prim.Native.Nat.{ℕ, ◌+◌, ◌≤◌}
 use borrow.Author.Tests.{lt-ltb, le-ltb, not-true, not-false}
 use lib.ListN.{length}
-use Rattle.book.specs.layouts.Entries.{body_length, bytes_of, size}
+use Rattle.book.specs.layouts.Entries.{body_length, kind_of, bytes_of, size}
 use Rattle.book.specs.layouts.Allowed.{allowed}
+use Rattle.book.specs.declared.entries.Entry.{Entry}
 use Rattle.book.specs.layouts.Writing.{writing, written}
 use Rattle.book.proofs.layouts.EntryLaws.{kind_lt, size_le, bytes_size, put_front}
 use Rattle.book.proofs.writer.write_entry.Goals as goal
-use Rattle.book.proofs.writer.write_entry.Goals.{After-kind_of-kind, Else-not-is_allowed}
 
-ok : (c : Else-not-is_allowed) → allowed c.args.e ≡ true
-ok c = sym c.is_allowed.ensures ∙ c.if-not-is_allowed.false
-
-sized : (c : After-kind_of-kind) → body_length c.kind_of-kind.result + 1 ≡ size c.args.e
-sized c = ap (λ (k : ℕ). body_length k + 1) c.kind_of-kind.ensures
+sized : {kind : ℕ} {e : Entry} → kind ≡ kind_of e → body_length kind + 1 ≡ size e
+sized q = ap (λ (k : ℕ). body_length k + 1) q
 
 pub returns-then-not-is_allowed : goal.returns-then-not-is_allowed
 unfolding writing written
@@ -27,28 +24,28 @@ returns-then-not-is_allowed c =
 pub offset_bounds-kind : goal.offset_bounds-kind
 offset_bounds-kind c = omega (arith, c.kind_of-kind.ensures, kind_lt c.args.e)
 
--- UNKNOWN NEED
-array_read_n : tie.Need-array-read-n
-array_read_n c = omega (arith, c.kind_of.ensures, kind_lt c.before.before.before.before.args.e)
+pub bounds-kind : goal.bounds-kind
+bounds-kind c = omega (arith, c.kind_of-kind.ensures, kind_lt c.args.e)
 
 pub overflow_add-n : goal.overflow_add-n
-overflow_add-n c = omega (arith, sized c, size_le c.args.e)
+overflow_add-n c = omega (arith, sized c.kind_of-kind.ensures, size_le c.args.e)
 
 pub returns-then-out-n : goal.returns-then-out-n
 unfolding writing written
 returns-then-out-n c =
     let a = c.args in
-    let short = lt-ltb (length a.out.now) (size a.e) (omega (arith, sized c.before, c.if-out-n.true)) in
-    (rw (ok c.before.before, short), rw (ok c.before.before, short))
+    let short = lt-ltb (length a.out.now) (size a.e) (omega (arith, sized c.kind_of-kind.ensures, c.if-out-n.true)) in
+    let allows : allowed a.e ≡ true = sym c.is_allowed.ensures ∙ c.if-not-is_allowed.false in
+    (rw (allows, short), rw (allows, short))
 
 pub put_entry-requires : goal.put_entry-requires
-put_entry-requires c = omega (arith, sized c.before.before, c.if-out-n.false)
+put_entry-requires c = omega (arith, sized c.kind_of-kind.ensures, c.if-out-n.false)
 
 pub returns : goal.returns
 unfolding writing written
 returns c =
-    let k = c.before.before.before.before.before in
-    let a = k.args in
-    let h : size a.e ≤ length a.out.now = omega (arith, sized k, c.if-out-n.false) in
+    let a = c.args in
+    let allows : allowed a.e ≡ true = sym c.is_allowed.ensures ∙ c.if-not-is_allowed.false in
+    let h : size a.e ≤ length a.out.now = omega (arith, sized c.kind_of-kind.ensures, c.if-out-n.false) in
     let fits = le-ltb (length a.out.now) (size a.e) h in
-    (rw (ok k.before, fits, sized k), rw (ok k.before, fits) (c.put_entry.ensures ∙ put_front (bytes_of a.e) a.out.now (size a.e) (bytes_size a.e) h))
+    (rw (allows, fits, sized c.kind_of-kind.ensures), rw (allows, fits) (c.put_entry.ensures ∙ put_front (bytes_of a.e) a.out.now (size a.e) (bytes_size a.e) h))
