@@ -28,8 +28,8 @@ const NO_QUOTIENT: u64 = 0xFFFF_FFFF_FFFF_FFFF;
 // amount × part / whole rounded down, or 2^64 − 1 where the arguments are not in order.
 #[unsafe(no_mangle)]
 pub extern "C" fn clearing_proportion(amount: u64, part: u64, whole: u64) -> u64
-    ensures value { Proportional amount part whole → result ≡ amount * part / whole }
-    ensures value_2 { (Proportional amount part whole → ⊥) → result ≡ no_quotient }
+    ensures quotient { Proportional amount part whole → result ≡ amount * part / whole }
+    ensures refused { (Proportional amount part whole → ⊥) → result ≡ no_quotient }
 {
     if !proportional(amount, part, whole) {
         return NO_QUOTIENT;
@@ -48,7 +48,7 @@ pub extern "C" fn clearing_notice(
     retention: &mut [u64],
     payable: &mut [u64],
 ) -> bool
-    ensures value { result ≡ in_order n by.now to.now groups.now reserves.now (min (length retention.old) (length payable.old)) }
+    ensures answer { result ≡ in_order n by.now to.now groups.now reserves.now (min (length retention.old) (length payable.old)) }
     ensures retention_after { retention.new ≡ left result (notice_of n by.now to.now groups.now reserves.now).retention retention.old }
     ensures payable_after { payable.new ≡ left result (notice_of n by.now to.now groups.now reserves.now).payable payable.old }
 {
@@ -78,7 +78,7 @@ pub extern "C" fn clearing_scaled(
     above: &mut [u64],
     below: &mut [u64],
 ) -> bool
-    ensures value { result ≡ settlement_in_order n by.now to.now groups.now reserves.now received.now revised.old above.old below.old }
+    ensures answer { result ≡ settlement_in_order n by.now to.now groups.now reserves.now received.now revised.old above.old below.old }
     ensures revised_after { revised.new ≡ left result (scaled_of n by.now to.now groups.now reserves.now received.now).revised revised.old }
     ensures above_after { above.new ≡ left result (scaled_of n by.now to.now groups.now reserves.now received.now).above above.old }
     ensures below_after { below.new ≡ left result (scaled_of n by.now to.now groups.now reserves.now received.now).below below.old }
@@ -113,7 +113,7 @@ pub extern "C" fn clearing_settle(
     claims: &mut [u64],
     arrears: &mut [u64],
 ) -> u64
-    ensures value { result ≡ cond (settlement_in_order n by.now to.now groups.now reserves.now received.now paid.old claims.old arrears.old) (settled_of n by.now to.now groups.now reserves.now received.now).rounds refused }
+    ensures answer { result ≡ cond (settlement_in_order n by.now to.now groups.now reserves.now received.now paid.old claims.old arrears.old) (settled_of n by.now to.now groups.now reserves.now received.now).rounds refused }
     ensures paid_after { paid.new ≡ left (leb result places) (settled_of n by.now to.now groups.now reserves.now received.now).paid paid.old }
     ensures claims_after { claims.new ≡ left (leb result places) (settled_of n by.now to.now groups.now reserves.now received.now).claims claims.old }
     ensures arrears_after { arrears.new ≡ left (leb result places) (settled_of n by.now to.now groups.now reserves.now received.now).arrears arrears.old }
@@ -145,7 +145,7 @@ pub extern "C" fn clearing_late(
     n: usize,
     pays: &mut [u64],
 ) -> bool
-    ensures value { result ≡ late_money_in_order n to.now claims.now paid.now money (length pays.old) }
+    ensures answer { result ≡ late_money_in_order n to.now claims.now paid.now money (length pays.old) }
     ensures pays_after { pays.new ≡ left result (cells (late_payment (tier_at (front tier_places to.now)) (row_of claims.now) (row_of paid.now) n money) n) pays.old }
 {
     if !late_money_in_order(to, claims, paid, money, n, pays.len()) {

@@ -99,8 +99,8 @@ pub fn check_receipts(
     n: usize,
     room: usize,
 ) -> Checked
-    ensures passed_value { result.passed ≡ received_in_order n by.now to.now groups.now reserves.now received.now room }
-    ensures payable_value { result.passed ≡ true → result.payable ≡ (notice_of n by.now to.now groups.now reserves.now).payable }
+    ensures passed { result.passed ≡ received_in_order n by.now to.now groups.now reserves.now received.now room }
+    ensures payable { result.passed ≡ true → result.payable ≡ (notice_of n by.now to.now groups.now reserves.now).payable }
 {
     if !in_order(by, to, groups, reserves, n, shorter(received.len(), room)) {
         let none = [0u64; PLACES];

@@ -1,0 +1,27 @@
+use mathlib.Core.Path.{refl, sym, ◌∙◌}
+use native.Mathlib.Omega.{arith}
+use Rattle.exports.specs.Slices.{left}
+use Rattle.exports.proofs.OrderLaws.{late_fitting}
+use Rattle.exports.proofs.clearing_late.Goals as goal
+
+pub returns-then-not-late_money_in_order : goal.returns-then-not-late_money_in_order
+unfolding left
+returns-then-not-late_money_in_order c = record { answer = sym c.if-not-late_money_in_order.true ∙ c.late_money_in_order.ensures; pays_after = refl }
+
+-- the arguments are in order where the test is passed
+pub late_of-pays_row-requires : goal.late_of-pays_row-requires
+late_of-pays_row-requires c =
+    let k = late_fitting _ _ _ _ _ _ (sym c.late_money_in_order.ensures ∙ c.if-not-late_money_in_order.false) in
+    (k.sound, omega (arith, k.roomy), omega (arith, k.roomy))
+
+pub put_row-requires : goal.put_row-requires
+put_row-requires c =
+    let k = late_fitting _ _ _ _ _ _ (sym c.late_money_in_order.ensures ∙ c.if-not-late_money_in_order.false) in
+    omega (arith, k.roomy)
+
+pub returns : goal.returns
+unfolding left
+returns c = record {
+      answer = sym c.if-not-late_money_in_order.false ∙ c.late_money_in_order.ensures;
+      pays_after = c.put_row.ensures ∙ rw c.late_of-pays_row.ensures refl;
+    }
