@@ -1,6 +1,7 @@
 // C exports: the exact proportion; over slices, notice, scaled amounts, settlement and late money of one month.
 // Arguments that no month of the rules has are not in order, and are refused (specs/Orders.antt says which).
 #![tactic(auto)]
+
 mod months;
 mod orders;
 mod slices;

@@ -22,6 +22,6 @@ put_row-requires c =
 pub returns : goal.returns
 unfolding left
 returns c = record {
-      answer = sym c.if-not-late_money_in_order.false ∙ c.late_money_in_order.ensures;
-      pays_after = c.put_row.ensures ∙ rw c.late_of-pays_row.ensures refl;
-    }
+  answer = sym c.if-not-late_money_in_order.false ∙ c.late_money_in_order.ensures;
+  pays_after = c.put_row.ensures ∙ rw c.late_of-pays_row.ensures refl;
+}

@@ -7,10 +7,10 @@ use Rattle.exports.proofs.clearing_notice.Goals as goal
 pub returns-then-not-in_order : goal.returns-then-not-in_order
 unfolding left
 returns-then-not-in_order c = record {
-      answer = sym c.if-not-in_order.true ∙ (rw c.shorter-room.ensures at c.in_order.ensures);
-      retention_after = refl;
-      payable_after = refl;
-    }
+  answer = sym c.if-not-in_order.true ∙ (rw c.shorter-room.ensures at c.in_order.ensures);
+  retention_after = refl;
+  payable_after = refl;
+}
 
 -- the arguments are in order where the test is passed
 pub notice_of-noticed-requires : goal.notice_of-noticed-requires
@@ -29,7 +29,7 @@ put_row-requires-2 c =
 pub returns : goal.returns
 unfolding left
 returns c = record {
-      answer = sym c.if-not-in_order.false ∙ (rw c.shorter-room.ensures at c.in_order.ensures);
-      retention_after = c.put_row.ensures ∙ rw c.notice_of-noticed.ensures refl;
-      payable_after = c.put_row-2.ensures ∙ rw c.notice_of-noticed.ensures refl;
-    }
+  answer = sym c.if-not-in_order.false ∙ (rw c.shorter-room.ensures at c.in_order.ensures);
+  retention_after = c.put_row.ensures ∙ rw c.notice_of-noticed.ensures refl;
+  payable_after = c.put_row-2.ensures ∙ rw c.notice_of-noticed.ensures refl;
+}

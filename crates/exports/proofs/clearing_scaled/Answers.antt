@@ -43,7 +43,7 @@ returns c =
     let passed = not-false _ c.if-not-checked.false in
     let checked = rw (c.shorter-room.ensures, c.shorter.ensures) at c.check_receipts-checked.ensures.passed in
     let answer : c.scaled_of-scaled.result ≡ scaled_of a.n a.by.now a.to.now a.groups.now a.reserves.now a.received.now =
-      (rw (c.check_receipts-checked.ensures.payable passed) at c.scaled_of-scaled.ensures) (notice_due _ _)
+    (rw (c.check_receipts-checked.ensures.payable passed) at c.scaled_of-scaled.ensures) (notice_due _ _)
     in
     record {
       answer = sym passed ∙ checked;

@@ -47,7 +47,7 @@ returns c =
     let passed = not-false _ c.if-not-checked.false in
     let checked = rw (c.shorter-room.ensures, c.shorter.ensures) at c.check_receipts-checked.ensures.passed in
     let answer : c.settled_of-settled.result ≡ settled_of a.n a.by.now a.to.now a.groups.now a.reserves.now a.received.now =
-      (rw (c.check_receipts-checked.ensures.payable passed) at c.settled_of-settled.ensures) (notice_due _ _)
+    (rw (c.check_receipts-checked.ensures.payable passed) at c.settled_of-settled.ensures) (notice_due _ _)
     in
     let m = month_of a.n a.by.now a.to.now in
     let retained = retention_of a.n a.by.now a.to.now a.groups.now a.reserves.now in
@@ -55,7 +55,7 @@ returns c =
     let few = rounds_le m retained received (retention_sound m (grouping_of a.groups.now a.reserves.now)) in
     let k = received_fitting _ _ _ _ _ _ _ (sym c.check_receipts-checked.ensures.passed ∙ passed) in
     let few_rounds : leb c.settled_of-settled.result.rounds places ≡ true =
-      rw answer (le-leb (rounds m retained received) places (omega (arith, few, k.sound.0.to_side.few)))
+    rw answer (le-leb (rounds m retained received) places (omega (arith, few, k.sound.0.to_side.few)))
     in
     record {
       answer = rw (sym checked ∙ passed, answer) refl;

@@ -3,10 +3,8 @@ use Rattle.exports.proofs.months.late_of.Goals as goal
 
 pub late_payments-requires : goal.late_payments-requires
 late_payments-requires c =
-    let s = c.before.before in
-    (s.requires.0.few, rw s.tier_cells_of-to_cells.ensures s.requires.0.total)
+    (c.requires.0.few, rw c.tier_cells_of-to_cells.ensures c.requires.0.total)
 
 pub returns : goal.returns
 returns c =
-    let s = c.before in
-    c.late_payments.ensures ∙ rw (s.tier_cells_of-to_cells.ensures, s.row_of-claims_row.ensures, s.row_of-paid_row.ensures) refl
+    c.late_payments.ensures ∙ rw (c.tier_cells_of-to_cells.ensures, c.row_of-claims_row.ensures, c.row_of-paid_row.ensures) refl

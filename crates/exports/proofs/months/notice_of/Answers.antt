@@ -4,11 +4,9 @@ use Rattle.exports.proofs.months.notice_of.Goals as goal
 
 pub notice-requires : goal.notice-requires
 notice-requires c =
-    let s = c.before.before in
-    let sound = s.requires in
-    rw (s.row_of-by_row.ensures, c.tier_cells_of-to_cells.ensures, c.grouping_of-grouping.ensures) (bounded sound.0, sound.1.grouped)
+    let sound = c.requires in
+    rw (c.row_of-by_row.ensures, c.tier_cells_of-to_cells.ensures, c.grouping_of-grouping.ensures) (bounded sound.0, sound.1.grouped)
 
 pub returns : goal.returns
 returns c =
-    let s = c.before in
-    c.notice.ensures ∙ rw (s.row_of-by_row.ensures, s.tier_cells_of-to_cells.ensures, s.grouping_of-grouping.ensures) refl
+    c.notice.ensures ∙ rw (c.row_of-by_row.ensures, c.tier_cells_of-to_cells.ensures, c.grouping_of-grouping.ensures) refl

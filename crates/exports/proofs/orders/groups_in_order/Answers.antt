@@ -14,6 +14,5 @@ returns-then-reserves-lt-GROUPS c = simp (le-leb _ _ c.if-groups-lt-PLACES.false
 pub returns : goal.returns
 unfolding all_of groups_in_order
 returns c =
-    let s = c.before.before in
-    simp (le-leb _ _ s.if-groups-lt-PLACES.false, le-leb _ _ s.if-reserves-lt-GROUPS.false)
+    simp (le-leb _ _ c.if-groups-lt-PLACES.false, le-leb _ _ c.if-reserves-lt-GROUPS.false)
     (rw (c.is_grouping_allowed.ensures, c.grouping_of-grouping.ensures) (last_test _))

@@ -38,7 +38,7 @@ returns-then-side_total c =
     let a = c.args in
     let passed = sym c.owing_in_order.ensures ∙ c.if-not-owing_in_order.false in
     let totals : eqb c.side_total.result c.side_total-2.result ≡ eqb (sum (row_of a.by.now) a.n) (sum (owing_of a.to.now) a.n) =
-      rw (c.side_total.ensures, c.side_total-2.ensures) (totals_tested _ _ _ (tiers_fitting _ _ _ passed).sound)
+    rw (c.side_total.ensures, c.side_total-2.ensures) (totals_tested _ _ _ (tiers_fitting _ _ _ passed).sound)
     in
     simp (passed, le-leb _ _ c.if-by-lt-PLACES.false, sym totals ∙ ne_eqb _ _ c.if-side_total.true)
 
@@ -51,7 +51,7 @@ returns c =
     let a = c.args in
     let passed = sym c.owing_in_order.ensures ∙ c.if-not-owing_in_order.false in
     let totals : eqb c.side_total.result c.side_total-2.result ≡ eqb (sum (row_of a.by.now) a.n) (sum (owing_of a.to.now) a.n) =
-      rw (c.side_total.ensures, c.side_total-2.ensures) (totals_tested _ _ _ (tiers_fitting _ _ _ passed).sound)
+    rw (c.side_total.ensures, c.side_total-2.ensures) (totals_tested _ _ _ (tiers_fitting _ _ _ passed).sound)
     in
     simp (passed, le-leb _ _ c.if-by-lt-PLACES.false, sym totals ∙ eq-eqb _ _ c.if-side_total.false)
     (c.groups_in_order.ensures ∙ last_test _)

@@ -1,22 +1,20 @@
-use Prim.Native.Nat.{◌-◌}
 use mathlib.Core.Path.{◌≡◌, refl, ◌∙◌}
 use native.Mathlib.Omega.{arith}
 use lib.ListN.{replicate}
 use Rattle.exact.specs.Rows.{places, at}
 use Rattle.exact.proofs.RowLaws.{filled_none, filled_more}
 use Rattle.exports.proofs.SliceLaws.{filled_front}
-use borrow.Author.Rules.{rules}
 use Rattle.exports.proofs.slices.row_of.Goals as goal
 
 pub loop-i-init : goal.loop-i-init
-loop-i-init c = (search rules, filled_none _ _)
+loop-i-init c = filled_none _ _
 
 pub loop-i-preserved : goal.loop-i-preserved
 loop-i-preserved c =
     let l = c.loop-i in
-    (search rules, rw l.invariant.1 (filled_more (at c.args.s.now) 0 l.i (replicate places 0) (omega arith)))
+    rw l.invariant (filled_more (at c.args.s.now) 0 l.i (replicate places 0) (omega arith))
 
 pub returns : goal.returns
 returns c =
     let e : c.loop-i.i ≡ places = omega arith in
-    c.loop-i.invariant.1 ∙ rw e (filled_front c.args.s.now (replicate places 0) places c.requires refl)
+    c.loop-i.invariant ∙ rw e (filled_front c.args.s.now (replicate places 0) places c.requires refl)

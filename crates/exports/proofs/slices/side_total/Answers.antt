@@ -1,26 +1,23 @@
-use Prim.Native.Nat.{◌-◌, ◌+◌}
+use Prim.Native.Nat.{◌+◌}
 use mathlib.Core.Path.{◌≡◌, sym}
 use native.Mathlib.Omega.{arith}
 use Rattle.exact.specs.Rows.{at}
 use Rattle.exact.proofs.RowLaws.{sum_none, sum_more, sum_part}
-use borrow.Author.Rules.{rules}
 use Rattle.exports.proofs.slices.side_total.Goals as goal
 
 pub loop-i-init : goal.loop-i-init
-loop-i-init c = (search rules, sym (sum_none _), search rules)
+loop-i-init c = (sym (sum_none _), omega arith)
 
 pub returns-then-total-s : goal.returns-then-total-s
 returns-then-total-s c =
-    let s = c.before.before.before in
-    let f = at s.args.s.now in
-    omega (arith, c.if-total-s.true, s.loop-i.invariant.1, s.loop-i.invariant.2, sum_more f s.loop-i.i, sum_part f (s.loop-i.i + 1) s.args.count (omega arith))
+    let f = at c.args.s.now in
+    omega (arith, c.if-total-s.true, c.loop-i.invariant.0, c.loop-i.invariant.1, sum_more f c.loop-i.i, sum_part f (c.loop-i.i + 1) c.args.count (omega arith))
 
 pub loop-i-preserved : goal.loop-i-preserved
 loop-i-preserved c =
-    let s = c.before.before.before.before in
-    omega (arith, c.if-total-s.false, s.loop-i.invariant.1, s.loop-i.invariant.2, sum_more (at s.args.s.now) s.loop-i.i)
+    omega (arith, c.if-total-s.false, c.loop-i.invariant.0, c.loop-i.invariant.1, sum_more (at c.args.s.now) c.loop-i.i)
 
 pub returns : goal.returns
 returns c =
     let e : c.loop-i.i ≡ c.args.count = omega arith in
-    omega (arith, c.loop-i.invariant.2, rw e at c.loop-i.invariant.1)
+    omega (arith, c.loop-i.invariant.1, rw e at c.loop-i.invariant.0)

@@ -1,11 +1,8 @@
-use Prim.Native.Nat.{◌-◌, ◌≤◌}
+use Prim.Native.Nat.{◌≤◌}
 use mathlib.Core.Path.{◌≡◌}
 use Rattle.exact.specs.Rows.{at, sum}
 use Rattle.settlement.specs.Month.{side_limit}
 use Rattle.exports.proofs.slices.side_total.Given as goal
 
 abbrev pub invariant-loop-i : goal.invariant-loop-i
-invariant-loop-i l = (l.i ≤ l.count) × (l.total ≡ sum (at l.s) l.i) × (l.total ≤ side_limit)
-
-abbrev pub decreases-loop-i : goal.decreases-loop-i
-decreases-loop-i l = l.count - l.i
+invariant-loop-i l = (l.total ≡ sum (at l.s) l.i) × (l.total ≤ side_limit)

@@ -1,4 +1,3 @@
-use Prim.Native.Nat.{◌-◌, ◌≤◌}
 use mathlib.Core.Path.{◌≡◌}
 use lib.ListN.{replicate}
 use Rattle.exact.specs.Rows.{at, filled}
@@ -6,7 +5,4 @@ use Rattle.exports.specs.Slices.{tier_places}
 use Rattle.exports.proofs.slices.tier_cells_of.Given as goal
 
 abbrev pub invariant-loop-i : goal.invariant-loop-i
-invariant-loop-i l = (l.i ≤ tier_places) × (l.out ≡ filled (at l.s) l.i (replicate tier_places 0))
-
-abbrev pub decreases-loop-i : goal.decreases-loop-i
-decreases-loop-i l = tier_places - l.i
+invariant-loop-i l = l.out ≡ filled (at l.s) l.i (replicate tier_places 0)
