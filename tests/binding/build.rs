@@ -1,7 +1,7 @@
 //! Links the static library of exports, and anew when it has changed.
 
 fn main() {
-    let folder = concat!(env!("CARGO_MANIFEST_DIR"), "/../../target/staticlib");
+    let folder = concat!(env!("CARGO_MANIFEST_DIR"), "/../../crates/exports/out");
     println!("cargo:rustc-link-search=native={folder}");
     println!("cargo:rustc-link-lib=static=exports");
     println!("cargo:rerun-if-changed={folder}/libexports.a");
