@@ -1,16 +1,12 @@
 use native.Mathlib.Omega.{arith}
+use mathlib.Core.Bool.{false}
 use mathlib.Core.Path.{◌≡◌, ap}
-use Prim.Native.Nat.{ℕ, suc, ◌≤◌, ◌<◌}
+use Prim.Native.Nat.{ℕ}
 use Rattle.book.specs.layouts.Fields.{fields_at}
-use Rattle.book.specs.layouts.Entries.{entry_of}
+use Rattle.book.specs.layouts.Entries.{unknown, entry_of}
 use Rattle.book.specs.declared.entries.Entry.TheVariants.{Open, Notice, Settle}
 use Rattle.book.proofs.layouts.EntryLaws.{known}
 use Rattle.book.proofs.reader.body_at.Goals as goal
-use Rattle.book.proofs.reader.body_at.Goals.{In_default}
-
--- a known kind without an arm of its own is the last
-last : (c : In_default) → c.args.kind ≡ 8
-last c = omega (arith, known c.args.kind c.requires.0, c.in_default)
 
 pub word_at-requires : goal.word_at-requires
 word_at-requires c = rw c.in-1.is at c.requires.1
@@ -34,7 +30,10 @@ pub purse_at-requires : goal.purse_at-requires
 purse_at-requires c = rw c.in-7.is at c.requires.1
 
 pub washup_at-requires : goal.washup_at-requires
-washup_at-requires c = rw (last c) at c.requires.1
+washup_at-requires c =
+    -- a known kind without an arm of its own is the last
+    let last : c.args.kind ≡ 8 = omega (arith, known c.args.kind c.requires.0) in
+    rw last at c.requires.1
 
 pub returns-in-1 : goal.returns-in-1
 unfolding entry_of fields_at
@@ -61,4 +60,7 @@ pub returns-in-7 : goal.returns-in-7
 returns-in-7 c = rw c.in-7.is c.purse_at.ensures
 
 pub returns-in_default : goal.returns-in_default
-returns-in_default c = rw (last c.before) c.washup_at.ensures
+returns-in_default c =
+    -- a known kind without an arm of its own is the last
+    let last : c.args.kind ≡ 8 = omega (arith, known c.args.kind c.requires.0) in
+    rw last c.washup_at.ensures

@@ -50,7 +50,7 @@ pub body_at-entry-requires : goal.body_at-entry-requires
 body_at-entry-requires c = (sym c.is_unknown.ensures ∙ c.if-is_unknown.false, omega arith)
 
 pub returns-then-is_allowed : goal.returns-then-is_allowed
-unfolding reading
+unfolding reading entry_at
 returns-then-is_allowed c = rw (inside c.args.s.now c.args.place c.if-s-place.false (sym c.is_unknown.ensures ∙ c.if-is_unknown.false) c.if-s-next.false _ c.body_at-entry.ensures, ← c.is_allowed.ensures, c.if-is_allowed.true, c.body_at-entry.ensures)
 
 pub returns : goal.returns

@@ -7,6 +7,7 @@ use Rattle.book.specs.rules.Refusals.{amount_checks}
 use Rattle.book.specs.declared.kinds.Addition.{Addition}
 use Rattle.book.proofs.rules.Passing.{receipt_inside}
 use Rattle.book.proofs.rules.AdditionLaws.{amount_checks_lem, WithinLimits, amount_within}
+use Rattle.book.specs.layouts.Entries.{entry_of}
 use Rattle.book.proofs.rules.KindLaws.{not_kind}
 use Rattle.book.proofs.rules.ChangeLaws.{total_within}
 use Rattle.book.proofs.runs.PostingSteps.{placed_side, kept_answer}

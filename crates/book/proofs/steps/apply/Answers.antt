@@ -46,7 +46,7 @@ raise_purse-requires c =
         fields = sym o.is_allowed.ensures ∙ o.if-not-is_allowed.false;
       },
       sym o.is_open.ensures ∙ o.if-is_open.false,
-      sym c.before.before.is_purse_lem.ensures ∙ c.if-is_purse.true,
+      sym c.before.before.is_purse.ensures ∙ c.if-is_purse.true,
     )
 
 pub change_named-requires : goal.change_named-requires
@@ -60,5 +60,5 @@ change_named-requires c =
         fields = sym o.is_allowed.ensures ∙ o.if-not-is_allowed.false;
       },
       sym o.is_open.ensures ∙ o.if-is_open.false,
-      sym c.before.before.is_purse_lem.ensures ∙ c.if-is_purse.false,
+      sym c.before.before.is_purse.ensures ∙ c.if-is_purse.false,
     )

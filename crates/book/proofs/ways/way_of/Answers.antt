@@ -32,12 +32,12 @@ answered : (c : After-is_accepted) (w : List ℕ) → let s = c.args in
 answered c w q =
     let o = c.before.before.before in
     let s = o.before.before.before.before.before.before in
-    to_open s.requires.0 _ w (entered o w q) (sym o.is_open_lem.ensures ∙ c.if-is_open.true)
+    to_open s.requires.0 _ w (entered o w q) (sym o.is_open.ensures ∙ c.if-is_open.true)
     ∙ sym (c.opening_answer-answer.ensures ∙ ap (λ k. refusal (open_checks (view s.args.b) k)) o.period_of-k.ensures)
 
 -- it is a purse entry
 is_purse_entry : (c : Then-is_purse) → is_purse c.args.e ≡ true
-is_purse_entry c = sym c.before.is_purse_lem.ensures ∙ c.if-is_purse.true
+is_purse_entry c = sym c.before.is_purse.ensures ∙ c.if-is_purse.true
 
 -- the answer to a purse entry is that of all the checks
 purse_answered : (c : After-is_accepted-then-is_purse) (w : List ℕ) → let s = c.args in
@@ -46,7 +46,7 @@ purse_answered c w q =
     let t = c.before.before.before.before in
     let o = t.before.before.before in
     let s = o.before.before.before.before.before.before in
-    to_purse s.requires.0 _ w (entered o w q) (sym o.is_open_lem.ensures ∙ t.if-is_open.false) (is_purse_entry t)
+    to_purse s.requires.0 _ w (entered o w q) (sym o.is_open.ensures ∙ t.if-is_open.false) (is_purse_entry t)
     ∙ sym (c.purse_answer-answer.ensures ∙ ap₂ (λ i cents. refusal (purse_checks (view s.args.b) i cents)) c.purse_of-i.ensures c.purse_cents-cents.ensures)
 
 -- the entry names the period at the place that was found
@@ -61,8 +61,8 @@ named c =
       some = omega (arith, o.if-b-eq0.false);
       enough = o.if-room-b.false;
       fields = o.requires.1;
-      not_open = sym o.is_open_lem.ensures ∙ u.if-is_open.false;
-      not_purse = sym u.is_purse_lem.ensures ∙ p.if-is_purse.false;
+      not_open = sym o.is_open.ensures ∙ u.if-is_open.false;
+      not_purse = sym u.is_purse.ensures ∙ p.if-is_purse.false;
       at_place = omega (arith, q, c.if-b-j.false);
       used = c.if-b-j.false;
     }
@@ -77,7 +77,7 @@ pub returns-then-is_accepted : goal.returns-then-is_accepted
 returns-then-is_accepted c =
     let a = c.before in
     let o = a.before.before.before in
-    (sym o.period_of-k.ensures, refl, sym o.is_open_lem.ensures ∙ a.if-is_open.true, λ w q. answered a w q ∙ eqb-true _ _ (sym a.is_accepted.ensures ∙ c.if-is_accepted.true))
+    (sym o.period_of-k.ensures, refl, sym o.is_open.ensures ∙ a.if-is_open.true, λ w q. answered a w q ∙ eqb-true _ _ (sym a.is_accepted.ensures ∙ c.if-is_accepted.true))
 
 pub returns-then-is_open : goal.returns-then-is_open
 returns-then-is_open c = (refl, eqb-false _ _ (sym c.is_accepted.ensures ∙ c.if-is_accepted.false), answered c.before)
@@ -111,7 +111,7 @@ returns-then-b-j c =
     let o = u.before.before in
     let s = o.before.before.before.before.before.before in
     let q = rw o.period_of-k.ensures at p.place-j.ensures in
-    (refl, (λ z. omega (arith, z)), λ w l. not_found s.requires.0 _ w (entered o w l) (sym o.is_open_lem.ensures ∙ u.if-is_open.false) (sym u.is_purse_lem.ensures ∙ p.if-is_purse.false) (omega (arith, q, c.if-b-j.true, count_is s.requires.0)))
+    (refl, (λ z. omega (arith, z)), λ w l. not_found s.requires.0 _ w (entered o w l) (sym o.is_open.ensures ∙ u.if-is_open.false) (sym u.is_purse.ensures ∙ p.if-is_purse.false) (omega (arith, q, c.if-b-j.true, count_is s.requires.0)))
 
 pub returns-then-is_amount : goal.returns-then-is_amount
 returns-then-is_amount c = (named c.before.before, sym c.is_amount.ensures ∙ c.if-is_amount.true)
