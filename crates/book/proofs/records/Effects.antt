@@ -20,7 +20,8 @@ use Rattle.book.specs.rules.Purses.{purses_after, after_drawing}
 use Rattle.book.specs.rules.Refusals.{period_checks, barring}
 use Rattle.book.specs.rules.Step.{payout_words, Reply, reply, paid_by}
 use Rattle.book.specs.rules.Valid.{Sound}
-use Rattle.book.specs.inner.OnePeriod.{Effect, effect, Affects}
+use Rattle.book.specs.inner.OnePeriod.{Effect, effect, effect_of, Affects}
+use Rattle.book.specs.declared.effects.Effect as effects
 use Rattle.book.specs.declared.entries.Entry.{Entry}
 use Rattle.book.specs.declared.Period.{Period}
 use Rattle.book.specs.declared.Book.{Book}
@@ -29,7 +30,7 @@ use Rattle.book.proofs.rules.StepLaws.{stored_leaves, stored_stays}
 use Rattle.book.proofs.rules.WordLaws.{payout_sum}
 use Rattle.book.proofs.records.Packing.{renewed, put, stored}
 use Rattle.book.proofs.records.Replies.{reply_refused, accepts}
-use Rattle.book.proofs.records.Named.{Found, found_period, found_in_book, found_checks, found_settles, found_still, held_fits, held_within, Passed, passed_checks, passed_accepted, passed_changes, held_stays, held_leaves, stores}
+use Rattle.book.proofs.records.Named.{Found, found_period, drawn_read, found_in_book, found_checks, found_settles, found_still, held_fits, held_within, Passed, passed_checks, passed_accepted, passed_changes, held_stays, held_leaves, stores}
 
 module _ (n : ℕ) (grouping : Grouping) (e : Entry) (barred : Bool) (p : Period) (held : ℕ) (w : List ℕ) where
   pub effect_accepted : refusal (period_checks n barred e p) ≡ 0 → effect n grouping e barred p held w ≡ record {
@@ -165,3 +166,15 @@ module _ {b : Book} {e : Entry} {w : List ℕ} {j : ℕ} (f : Found b e w j) whe
     within = held_within f;
     fits = held_fits f;
   }
+
+-- the book once what an entry draws has been moved, and what then becomes of the period that it names
+abbrev pub Drawn : (s : Book) (e : Entry) (j : ℕ) (b : Book) → Type 0
+Drawn s e j b = b ≡ put s j (found_period s e) s.held (purses_after (view s) e)
+
+abbrev pub Affected : (s : Book) (e : Entry) (w : List ℕ) (r : effects.Effect) (after : List ℕ) → Type 0
+Affected s e w r after = effect_of r after ≡ effect s.n s.grouping e (barring e (view s).periods) (found_period s e) s.held w
+
+pub affected : {s : Book} {e : Entry} {w : List ℕ} {j : ℕ} (f : Found s e w j) (b : Book) (barred : Bool) (r : effects.Effect) (after : List ℕ)
+    → barred ≡ barring e (view s).periods → Drawn s e j b
+    → effect_of r after ≡ effect b.n b.grouping e barred (get_or b.periods j no_period) b.held w → Affected s e w r after
+affected f b barred r after same d q = rw (same, d, drawn_read f) at q

@@ -15,13 +15,12 @@ use Rattle.book.specs.rules.Answers.{number_of}
 use Rattle.book.specs.inner.OnePeriod.{effect, effect_of}
 use Rattle.book.specs.declared.answers.Answer.TheVariants.{NotInBook}
 use Rattle.book.specs.declared.Book.{Book}
-use Rattle.book.specs.declared.effects.Effect.{Effect}
 use Rattle.book.proofs.rules.LimitLaws.{many_places}
 use Rattle.book.proofs.records.Packing.{count_is, count_few, read_in_book, put}
 use Rattle.book.proofs.records.Bounds.{arrears_bound}
 use Rattle.book.proofs.records.Replies.{refuses, not_found}
 use Rattle.book.proofs.records.Named.{Found, found_period, drawn_valid, drawn_view, drawn_read, drawn_other, drawn_settle, stored_over}
-use Rattle.book.proofs.records.Effects.{found_affects, effect_sound, reply_stays, leaves_held, reply_leaves}
+use Rattle.book.proofs.records.Effects.{Drawn, affected, found_affects, effect_sound, reply_stays, leaves_held, reply_leaves}
 use Rattle.book.proofs.steps.change_named.Goals as goal
 use Rattle.book.proofs.steps.change_named.Goals.{then-is_settle, else-is_settle}
 
@@ -39,19 +38,6 @@ found b e w j k r named at_j used = record {
   at_place = omega (arith, rw named at at_j, used);
   used = used;
 }
-
--- the book once what the entry draws has been moved
-abbrev Drawn : (s : Book) (e : Entry) (j : ℕ) (b : Book) → Type 0
-Drawn s e j b = b ≡ put s j (found_period s e) s.held (purses_after (view s) e)
-
--- what became of the period
-abbrev Affected : (s : Book) (e : Entry) (w : List ℕ) (r : Effect) (after : List ℕ) → Type 0
-Affected s e w r after = effect_of r after ≡ effect s.n s.grouping e (barring e (view s).periods) (found_period s e) s.held w
-
-affected : {s : Book} {e : Entry} {w : List ℕ} {j : ℕ} (f : Found s e w j) (b : Book) (barred : Bool) (r : Effect) (after : List ℕ)
-    → barred ≡ barring e (view s).periods → Drawn s e j b
-    → effect_of r after ≡ effect b.n b.grouping e barred (get_or b.periods j no_period) b.held w → Affected s e w r after
-affected f b barred r after same d q = rw (same, d, drawn_read f) at q
 
 pub returns-then-b-j : goal.returns-then-b-j
 returns-then-b-j c =
