@@ -3,4 +3,3 @@ pub mod EntryLaws
 pub mod ReadLaws
 pub mod Outcomes
 pub mod RoundTrips
-pub mod FeedLaws

@@ -16,14 +16,14 @@ pub fn feed_at<'a>(bytes: &'a [u8], place: usize) -> Feed<'a>
     Feed { bytes, place }
 }
 
-// The work is left to `read_entry`, whose parameters are plain: a function over a feed reader is proved by hand.
+// The work is left to `read_entry`, which takes the bytes and the place.
 pub fn next_entry<'a>(feed: Feed<'a>) -> Reading
     ensures { read_outcome feed.entry.place result ≡ reading feed.entry.bytes.now feed.entry.place }
 {
     read_entry(feed.bytes, feed.place)
 }
 
-// For callers that keep the place themselves, so that they hold no feed reader and need no proof by hand.
+// For callers that keep the place themselves.
 pub fn read_next(bytes: &[u8], place: usize) -> Reading
     ensures { read_outcome place result ≡ reading bytes.now place }
 {

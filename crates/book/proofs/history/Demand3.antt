@@ -9,7 +9,7 @@ use Rattle.exact.specs.Rows.{at, sum}
 use Rattle.exact.proofs.RowLaws.{sum_zero, sum_mono, sum_cong}
 use Rattle.settlement.specs.Settling.{held}
 use Rattle.settlement.specs.declared.groups.Grouping.{Grouping}
-use Rattle.book.specs.rules.Periods.{is_settled, holds, leaves}
+use Rattle.book.specs.rules.Periods.{is_settled, holds}
 use Rattle.book.specs.rules.State.{State, view, held_in, held_by, numbers, numbers_in}
 use Rattle.book.specs.rules.Makings.{grouping_of}
 use Rattle.book.specs.rules.Valid.{All, AtStage, InBook, Valid, AfterSettlement}

@@ -10,7 +10,6 @@ use Rattle.settlement.specs.Month.{Month, tier_at}
 use Rattle.settlement.specs.Notice.{payable}
 use Rattle.settlement.specs.Groups.{group_retention}
 use Rattle.settlement.specs.Claims.{claim, arrears}
-use Rattle.settlement.specs.Settling.{paid}
 use Rattle.settlement.specs.Late.{fill, tiers_of, shortage}
 use Rattle.settlement.proofs.Laws.{claim_cong, arrears_cong, shortage_cong}
 use Rattle.settlement.specs.declared.groups.Grouping.{Grouping}

@@ -1,5 +1,5 @@
 -- Laws of accounts and purses: an entry enters the account of the period that it names, and no other.
-use Prim.Native.Nat.{ℕ, ◌+◌, ◌-◌, ◌<◌}
+use Prim.Native.Nat.{ℕ, ◌+◌, ◌<◌}
 use mathlib.Core.Path.{◌≡◌, refl, sym}
 use mathlib.Core.Bool.{true, false, cond}
 use native.Mathlib.Omega.{arith}

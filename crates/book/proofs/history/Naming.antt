@@ -1,16 +1,14 @@
 -- An entry that names a period in the book keeps the invariant.
-use Prim.Native.Nat.{ℕ, suc, ◌+◌, ◌-◌, ◌≤◌, ◌<◌}
+use Prim.Native.Nat.{ℕ, suc, ◌+◌, ◌≤◌, ◌<◌}
 use mathlib.Core.Path.{◌≡◌, sym, ap, subst, ◌∙◌}
 use mathlib.Core.Bool.{true, false, cond, true≢false}
 use mathlib.Core.List.{List, ◌∷◌, ◌++◌}
 use native.Mathlib.Omega.{arith}
-use borrow.Author.Tests.{eqb-true}
 use lib.ListN.{take, drop}
 use Rattle.exact.specs.Rows.{at}
 use Rattle.exact.proofs.Cases.{cases}
 use Rattle.exact.proofs.RowLaws.{sum_term}
 use Rattle.settlement.specs.declared.groups.Grouping.{Grouping}
-use Rattle.book.specs.layouts.Entries.{kind_of}
 use Rattle.book.specs.rules.Kinds.{period_of, names, is_receipt, is_settle, receipt_cents}
 use Rattle.book.specs.rules.Periods.{leaves, Change, changed}
 use Rattle.book.specs.rules.State.{State, find, period_at, replaced, removed}

@@ -1,7 +1,7 @@
 -- The book as an entry that names a period finds it, with what is drawn moved: as sound, and holding as much, as before.
 use Prim.Native.Nat.{ℕ, suc, ◌+◌, ◌-◌, ◌<◌, min}
 use mathlib.Core.Path.{◌≡◌, refl, sym, ap, subst, ◌∙◌}
-use mathlib.Core.Bool.{Bool, true, false, cond, not, false≢true}
+use mathlib.Core.Bool.{Bool, true, false, cond, false≢true}
 use mathlib.Core.List.{List, ◌∷◌, ◌++◌}
 use native.Mathlib.Omega.{arith}
 use borrow.Author.Tests.{eqb-true}
@@ -9,7 +9,7 @@ use lib.ListN.{length, take, drop, length-append}
 use Rattle.exact.specs.Rows.{at, sum}
 use Rattle.book.specs.Checks.{refusal}
 use Rattle.book.specs.layouts.Entries.{kind_of, entry_of}
-use Rattle.book.specs.rules.Kinds.{period_of, is_receipt, is_settle}
+use Rattle.book.specs.rules.Kinds.{period_of, is_settle}
 use Rattle.book.specs.rules.Periods.{is_noticed}
 use Rattle.book.specs.rules.State.{State, held_in, held_by, find, period_at, earlier_arrears, replaced, with_periods, with_purses}
 use Rattle.book.specs.rules.Purses.{drawn_from, with_drawn, purses_left, settles, periods_after, purses_after, after_drawing}

@@ -1,12 +1,9 @@
 -- Laws of kinds: every entry has one, and an entry in the last arm of a match has none of those with an arm of their own.
-use Prim.Native.Nat.{ℕ, zero, suc, ◌-◌}
-use mathlib.Core.Path.{◌≡◌, refl, subst, ◌∙◌}
-use mathlib.Core.Bool.{Bool, true, false, cond, not, true≢false, false≢true}
-use mathlib.Core.List.{List, [], ◌∷◌, ◌++◌}
-use native.Mathlib.Omega.{arith}
+use Prim.Native.Nat.{ℕ}
+use mathlib.Core.Path.{◌≡◌, refl, ◌∙◌}
+use mathlib.Core.Bool.{Bool, true, false, cond, true≢false, false≢true}
 use borrow.Author.Tests.{eqb-true, eq-eqb, ne_eqb}
-use lib.Dec.{T, eqb}
-use lib.ListN.{length}
+use lib.Dec.{eqb}
 use Rattle.book.specs.layouts.Entries.{kind_of, fields_of, entry_of}
 use Rattle.book.specs.rules.Kinds.{is_purse, is_receipt, is_settle, period_of, names, EveryKind}
 use Rattle.book.specs.declared.entries.Entry.{Entry}

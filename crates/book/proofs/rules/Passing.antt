@@ -1,5 +1,5 @@
 -- What an entry that passed the checks of its kind is known to be.
-use Prim.Native.Nat.{ℕ, zero, suc, ◌+◌, ◌-◌, ◌≤◌, ◌<◌}
+use Prim.Native.Nat.{ℕ, zero, suc, ◌+◌, ◌≤◌, ◌<◌}
 use mathlib.Core.Path.{◌≡◌, refl, subst}
 use mathlib.Core.Bool.{Bool, true, false, not, true≢false, false≢true}
 use mathlib.Core.Logic.{◌⊎◌, inl, inr}
@@ -7,7 +7,7 @@ use native.Mathlib.Nat.{pos_of_ne-zero}
 use native.Mathlib.Omega.{arith}
 use borrow.Author.Tests.{ltb-false, leb-false, eqb-true, eqb-false, not-false}
 use lib.Dec.{eqb, eqb-suc-zero}
-use Rattle.exact.specs.Rows.{places, at}
+use Rattle.exact.specs.Rows.{places}
 use Rattle.exact.proofs.Cases.{cases}
 use Rattle.exact.specs.Energy.{quantity_limit, price_limit}
 use Rattle.settlement.specs.Month.{side_limit, tiers}

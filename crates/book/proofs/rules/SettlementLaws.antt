@@ -22,7 +22,7 @@ use Rattle.book.specs.declared.Stage.TheVariants.{Noticed, Settled}
 use Rattle.book.specs.declared.Period.{Period}
 use Rattle.book.proofs.rules.CellLaws.{raised_length, raised_sum, lowered_sum}
 use Rattle.book.proofs.rules.Passing.{PassesReceipt}
-use Rattle.book.proofs.rules.ChangeLaws.{Changes, left_settled, paid_within}
+use Rattle.book.proofs.rules.ChangeLaws.{Changes, left_settled}
 
 -- until settlement the payable row of a period in the book comes from retention over the book's groups
 abbrev pub due_in_book : (n : ℕ) {grouping : Grouping} (p : Period) → InBook n grouping p → p.stage ≡ Noticed → Due (month_of n p) p.payable

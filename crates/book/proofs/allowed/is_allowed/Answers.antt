@@ -1,6 +1,4 @@
-use Prim.Native.Nat.{ℕ}
 use mathlib.Core.Path.{sym, ap, ◌∙◌}
-use mathlib.Core.List.{List, [], ◌∷◌}
 use Rattle.book.specs.layouts.Allowed.{allowed}
 use Rattle.book.proofs.allowed.is_allowed.Goals as goal
 

@@ -111,8 +111,8 @@ pub apply_to_period-r-requires : goal.apply_to_period-r-requires
 apply_to_period-r-requires c =
     let f = named_found c.loop-lines.words c.loop-lines.invariant.0.valid (named_read c.in-Named.ensures).1 in
     let d : Drawn c.loop-lines.b c.in-Named.entry c.in-Named.j c.if-is_settle.b = elim c.if-is_settle.branch [
-      then-is_settle w ↦ w.b-is ∙ drawn_settle f (sym c.is_settle.ensures ∙ w.if-is_settle.true) _ w.drawable_purses.ensures _ _ w.draw-d.ensures.0 w.draw-d.ensures.1
-    | else-is_settle w ↦ w.b-is ∙ drawn_other f (sym c.is_settle.ensures ∙ w.if-is_settle.false)
+      | then-is_settle w ↦ w.b-is ∙ drawn_settle f (sym c.is_settle.ensures ∙ w.if-is_settle.true) _ w.drawable_purses.ensures _ _ w.draw-d.ensures.0 w.draw-d.ensures.1
+      | else-is_settle w ↦ w.b-is ∙ drawn_other f (sym c.is_settle.ensures ∙ w.if-is_settle.false)
     ] in
     rw (d, drawn_read f) (found_affects f)
 
@@ -126,8 +126,8 @@ pub is_leaving-requires : goal.is_leaving-requires
 is_leaving-requires c =
     let f = named_found c.loop-lines.words c.loop-lines.invariant.0.valid (named_read c.in-Named.ensures).1 in
     let d : Drawn c.loop-lines.b c.in-Named.entry c.in-Named.j c.if-is_settle.b = elim c.if-is_settle.branch [
-      then-is_settle w ↦ w.b-is ∙ drawn_settle f (sym c.is_settle.ensures ∙ w.if-is_settle.true) _ w.drawable_purses.ensures _ _ w.draw-d.ensures.0 w.draw-d.ensures.1
-    | else-is_settle w ↦ w.b-is ∙ drawn_other f (sym c.is_settle.ensures ∙ w.if-is_settle.false)
+      | then-is_settle w ↦ w.b-is ∙ drawn_settle f (sym c.is_settle.ensures ∙ w.if-is_settle.true) _ w.drawable_purses.ensures _ _ w.draw-d.ensures.0 w.draw-d.ensures.1
+      | else-is_settle w ↦ w.b-is ∙ drawn_other f (sym c.is_settle.ensures ∙ w.if-is_settle.false)
     ] in
     let k = affected f _ _ _ _ c.is_barred-barred.ensures d c.apply_to_period-r.ensures in
     let sound = effect_sound f _ k in
@@ -137,8 +137,8 @@ pub without_period-left-requires : goal.without_period-left-requires
 without_period-left-requires c =
     let f = named_found c.loop-lines.words c.loop-lines.invariant.0.valid (named_read c.in-Named.ensures).1 in
     let d : Drawn c.loop-lines.b c.in-Named.entry c.in-Named.j c.if-is_settle.b = elim c.if-is_settle.branch [
-      then-is_settle w ↦ w.b-is ∙ drawn_settle f (sym c.is_settle.ensures ∙ w.if-is_settle.true) _ w.drawable_purses.ensures _ _ w.draw-d.ensures.0 w.draw-d.ensures.1
-    | else-is_settle w ↦ w.b-is ∙ drawn_other f (sym c.is_settle.ensures ∙ w.if-is_settle.false)
+      | then-is_settle w ↦ w.b-is ∙ drawn_settle f (sym c.is_settle.ensures ∙ w.if-is_settle.true) _ w.drawable_purses.ensures _ _ w.draw-d.ensures.0 w.draw-d.ensures.1
+      | else-is_settle w ↦ w.b-is ∙ drawn_other f (sym c.is_settle.ensures ∙ w.if-is_settle.false)
     ] in
     let k = affected f _ _ _ _ c.is_barred-barred.ensures d c.apply_to_period-r.ensures in
     let v = drawn_valid f in
@@ -163,16 +163,16 @@ loop-lines-preserved-else-r-ne0 c =
     let l = c.loop-lines in
     let f = named_found c.loop-lines.words c.loop-lines.invariant.0.valid (named_read c.in-Named.ensures).1 in
     let d : Drawn c.loop-lines.b c.in-Named.entry c.in-Named.j c.if-is_settle.b = elim c.if-is_settle.branch [
-      then-is_settle w ↦ w.b-is ∙ drawn_settle f (sym c.is_settle.ensures ∙ w.if-is_settle.true) _ w.drawable_purses.ensures _ _ w.draw-d.ensures.0 w.draw-d.ensures.1
-    | else-is_settle w ↦ w.b-is ∙ drawn_other f (sym c.is_settle.ensures ∙ w.if-is_settle.false)
+      | then-is_settle w ↦ w.b-is ∙ drawn_settle f (sym c.is_settle.ensures ∙ w.if-is_settle.true) _ w.drawable_purses.ensures _ _ w.draw-d.ensures.0 w.draw-d.ensures.1
+      | else-is_settle w ↦ w.b-is ∙ drawn_other f (sym c.is_settle.ensures ∙ w.if-is_settle.false)
     ] in
     let k = affected f _ _ _ _ c.is_barred-barred.ensures d c.apply_to_period-r.ensures in
     let leaving = rw d at c.is_leaving.ensures in
     let left : c.if-is_leaving.b ≡ (reply l.b (record { entry = c.in-Named.entry; words = l.words })).book = elim c.if-is_leaving.branch [
-      then-is_leaving w ↦
+      | then-is_leaving w ↦
           w.b-is ∙ (rw d at w.without_period-left.ensures) ∙ ap (λ (s : State). pack (removed s c.in-Named.j)) (drawn_view f)
           ∙ ap (λ (r : Reply). r.book) (reply_leaves f _ k (sym leaving ∙ w.if-is_leaving.true))
-    | else-is_leaving w ↦
+      | else-is_leaving w ↦
           w.b-is ∙ stored_over f d c.apply_to_period-r.result.period c.apply_to_period-r.result.held
           ∙ ap (λ (r : Reply). r.book) (reply_stays f _ k (sym leaving ∙ w.if-is_leaving.false))
     ] in
@@ -291,16 +291,16 @@ returns-then-r-ne0 c =
     let l = c.loop-lines in
     let f = named_found c.loop-lines.words c.loop-lines.invariant.0.valid (named_read c.in-Named.ensures).1 in
     let d : Drawn c.loop-lines.b c.in-Named.entry c.in-Named.j c.if-is_settle.b = elim c.if-is_settle.branch [
-      then-is_settle w ↦ w.b-is ∙ drawn_settle f (sym c.is_settle.ensures ∙ w.if-is_settle.true) _ w.drawable_purses.ensures _ _ w.draw-d.ensures.0 w.draw-d.ensures.1
-    | else-is_settle w ↦ w.b-is ∙ drawn_other f (sym c.is_settle.ensures ∙ w.if-is_settle.false)
+      | then-is_settle w ↦ w.b-is ∙ drawn_settle f (sym c.is_settle.ensures ∙ w.if-is_settle.true) _ w.drawable_purses.ensures _ _ w.draw-d.ensures.0 w.draw-d.ensures.1
+      | else-is_settle w ↦ w.b-is ∙ drawn_other f (sym c.is_settle.ensures ∙ w.if-is_settle.false)
     ] in
     let k = affected f _ _ _ _ c.is_barred-barred.ensures d c.apply_to_period-r.ensures in
     let leaving = rw d at c.is_leaving.ensures in
     let left : c.if-is_leaving.b ≡ (reply l.b (record { entry = c.in-Named.entry; words = l.words })).book = elim c.if-is_leaving.branch [
-      then-is_leaving w ↦
+      | then-is_leaving w ↦
           w.b-is ∙ (rw d at w.without_period-left.ensures) ∙ ap (λ (s : State). pack (removed s c.in-Named.j)) (drawn_view f)
           ∙ ap (λ (r : Reply). r.book) (reply_leaves f _ k (sym leaving ∙ w.if-is_leaving.true))
-    | else-is_leaving w ↦
+      | else-is_leaving w ↦
           w.b-is ∙ stored_over f d c.apply_to_period-r.result.period c.apply_to_period-r.result.held
           ∙ ap (λ (r : Reply). r.book) (reply_stays f _ k (sym leaving ∙ w.if-is_leaving.false))
     ] in

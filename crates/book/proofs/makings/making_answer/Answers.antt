@@ -1,7 +1,6 @@
 use mathlib.Core.Path.{◌≡◌, sym, ◌∙◌}
 use mathlib.Core.Bool.{true, false}
 use native.Mathlib.Omega.{arith}
-use borrow.Author.Tests.{not-true, not-false}
 use Rattle.book.specs.rules.Limits.{market, within}
 use Rattle.book.proofs.rules.LimitLaws.{within_both}
 use Rattle.book.proofs.makings.making_answer.Goals as goal

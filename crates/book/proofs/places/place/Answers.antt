@@ -1,4 +1,3 @@
-use Prim.Native.Nat.{◌-◌}
 use native.Mathlib.Omega.{arith}
 use Rattle.book.proofs.records.Packing.{count_few, find_here, find_past, find_nowhere}
 use Rattle.book.proofs.places.place.Goals as goal

@@ -1,6 +1,5 @@
 use Rattle.book.specs.rules.State.{view, held_by, added}
 use mathlib.Core.List.{[], ◌∷◌}
-use Prim.Native.Nat.{◌-◌}
 use native.Mathlib.Omega.{arith}
 use Rattle.book.proofs.records.Packing.{count_is, count_few, pushed}
 use Rattle.book.proofs.rules.ListLaws.{held_join}

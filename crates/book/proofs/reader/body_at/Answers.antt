@@ -1,9 +1,7 @@
 use native.Mathlib.Omega.{arith}
-use mathlib.Core.Bool.{false}
 use mathlib.Core.Path.{◌≡◌, ap}
-use Prim.Native.Nat.{ℕ}
 use Rattle.book.specs.layouts.Fields.{fields_at}
-use Rattle.book.specs.layouts.Entries.{unknown, entry_of}
+use Rattle.book.specs.layouts.Entries.{entry_of}
 use Rattle.book.specs.declared.entries.Entry.TheVariants.{Open, Notice, Settle}
 use Rattle.book.proofs.layouts.EntryLaws.{known}
 use Rattle.book.proofs.reader.body_at.Goals as goal

@@ -1,6 +1,5 @@
 use Prim.Native.Nat.{◌<◌}
 use mathlib.Core.Path.{sym, ap, ap₂, ◌∙◌}
-use mathlib.Core.List.{[], ◌∷◌}
 use native.Mathlib.Omega.{arith}
 use Rattle.book.specs.Checks.{refusal}
 use Rattle.book.specs.rules.Refusals.{amount_checks}

@@ -1,25 +1,21 @@
 use mathlib.Core.Path.{◌≡◌, sym, ap, ◌∙◌}
 use Prim.Native.Nat.{ℕ, ◌<◌, min}
-use mathlib.Core.Bool.{Bool, false}
-use lib.ListN.{get_or}
+use mathlib.Core.Bool.{false}
 use mathlib.Core.List.{List}
 use native.Mathlib.Omega.{arith}
 use Rattle.book.specs.rules.Kinds.{is_open, is_purse, period_of}
 use Rattle.book.specs.rules.Valid.{Valid}
 use Rattle.book.specs.inner.Ways.{Entered}
 use Rattle.book.specs.declared.entries.Entry.{Entry}
-use Rattle.book.specs.rules.State.{State, find, view, pack, held_by, no_period, removed}
-use Rattle.book.specs.rules.Purses.{purses_after}
-use Rattle.book.specs.rules.Refusals.{barring}
+use Rattle.book.specs.rules.State.{State, find, view, pack, held_by, removed}
 use Rattle.book.specs.rules.Answers.{number_of}
-use Rattle.book.specs.inner.OnePeriod.{effect, effect_of}
 use Rattle.book.specs.declared.answers.Answer.TheVariants.{NotInBook}
 use Rattle.book.specs.declared.Book.{Book}
 use Rattle.book.proofs.rules.LimitLaws.{many_places}
-use Rattle.book.proofs.records.Packing.{count_is, count_few, read_in_book, put}
+use Rattle.book.proofs.records.Packing.{count_is, count_few, read_in_book}
 use Rattle.book.proofs.records.Bounds.{arrears_bound}
 use Rattle.book.proofs.records.Replies.{refuses, not_found}
-use Rattle.book.proofs.records.Named.{Found, found_period, drawn_valid, drawn_view, drawn_read, drawn_other, drawn_settle, stored_over}
+use Rattle.book.proofs.records.Named.{Found, drawn_valid, drawn_view, drawn_read, drawn_other, drawn_settle, stored_over}
 use Rattle.book.proofs.records.Effects.{Drawn, affected, found_affects, effect_sound, reply_stays, leaves_held, reply_leaves}
 use Rattle.book.proofs.steps.change_named.Goals as goal
 use Rattle.book.proofs.steps.change_named.Goals.{then-is_settle, else-is_settle}
@@ -78,8 +74,8 @@ pub apply_to_period-r-requires : goal.apply_to_period-r-requires
 apply_to_period-r-requires c =
     let f = found c.args.b c.args.e c.args.words.now _ _ c.requires c.period_of.ensures c.place-j.ensures c.if-b-j.false in
     let d : Drawn c.args.b c.args.e c.place-j.result c.if-is_settle.b = elim c.if-is_settle.branch [
-      then-is_settle w ↦ w.b-is ∙ drawn_settle f (sym c.is_settle.ensures ∙ w.if-is_settle.true) _ w.drawable_purses.ensures _ _ w.draw-d.ensures.0 w.draw-d.ensures.1
-    | else-is_settle w ↦ w.b-is ∙ drawn_other f (sym c.is_settle.ensures ∙ w.if-is_settle.false)
+      | then-is_settle w ↦ w.b-is ∙ drawn_settle f (sym c.is_settle.ensures ∙ w.if-is_settle.true) _ w.drawable_purses.ensures _ _ w.draw-d.ensures.0 w.draw-d.ensures.1
+      | else-is_settle w ↦ w.b-is ∙ drawn_other f (sym c.is_settle.ensures ∙ w.if-is_settle.false)
     ] in
     rw (d, drawn_read f) (found_affects f)
 
@@ -87,8 +83,8 @@ pub is_leaving-requires : goal.is_leaving-requires
 is_leaving-requires c =
     let f = found c.args.b c.args.e c.args.words.now _ _ c.requires c.period_of.ensures c.place-j.ensures c.if-b-j.false in
     let d : Drawn c.args.b c.args.e c.place-j.result c.if-is_settle.b = elim c.if-is_settle.branch [
-      then-is_settle w ↦ w.b-is ∙ drawn_settle f (sym c.is_settle.ensures ∙ w.if-is_settle.true) _ w.drawable_purses.ensures _ _ w.draw-d.ensures.0 w.draw-d.ensures.1
-    | else-is_settle w ↦ w.b-is ∙ drawn_other f (sym c.is_settle.ensures ∙ w.if-is_settle.false)
+      | then-is_settle w ↦ w.b-is ∙ drawn_settle f (sym c.is_settle.ensures ∙ w.if-is_settle.true) _ w.drawable_purses.ensures _ _ w.draw-d.ensures.0 w.draw-d.ensures.1
+      | else-is_settle w ↦ w.b-is ∙ drawn_other f (sym c.is_settle.ensures ∙ w.if-is_settle.false)
     ] in
     let k = affected f _ _ _ _ c.is_barred-barred.ensures d c.apply_to_period-r.ensures in
     let sound = effect_sound f _ k in
@@ -98,8 +94,8 @@ pub without_period-next-requires : goal.without_period-next-requires
 without_period-next-requires c =
     let f = found c.args.b c.args.e c.args.words.now _ _ c.requires c.period_of.ensures c.place-j.ensures c.if-b-j.false in
     let d : Drawn c.args.b c.args.e c.place-j.result c.if-is_settle.b = elim c.if-is_settle.branch [
-      then-is_settle w ↦ w.b-is ∙ drawn_settle f (sym c.is_settle.ensures ∙ w.if-is_settle.true) _ w.drawable_purses.ensures _ _ w.draw-d.ensures.0 w.draw-d.ensures.1
-    | else-is_settle w ↦ w.b-is ∙ drawn_other f (sym c.is_settle.ensures ∙ w.if-is_settle.false)
+      | then-is_settle w ↦ w.b-is ∙ drawn_settle f (sym c.is_settle.ensures ∙ w.if-is_settle.true) _ w.drawable_purses.ensures _ _ w.draw-d.ensures.0 w.draw-d.ensures.1
+      | else-is_settle w ↦ w.b-is ∙ drawn_other f (sym c.is_settle.ensures ∙ w.if-is_settle.false)
     ] in
     let k = affected f _ _ _ _ c.is_barred-barred.ensures d c.apply_to_period-r.ensures in
     let v = drawn_valid f in
@@ -110,8 +106,8 @@ pub returns-then-is_leaving : goal.returns-then-is_leaving
 returns-then-is_leaving c =
     let f = found c.args.b c.args.e c.args.words.now _ _ c.requires c.period_of.ensures c.place-j.ensures c.if-b-j.false in
     let d : Drawn c.args.b c.args.e c.place-j.result c.if-is_settle.b = elim c.if-is_settle.branch [
-      then-is_settle w ↦ w.b-is ∙ drawn_settle f (sym c.is_settle.ensures ∙ w.if-is_settle.true) _ w.drawable_purses.ensures _ _ w.draw-d.ensures.0 w.draw-d.ensures.1
-    | else-is_settle w ↦ w.b-is ∙ drawn_other f (sym c.is_settle.ensures ∙ w.if-is_settle.false)
+      | then-is_settle w ↦ w.b-is ∙ drawn_settle f (sym c.is_settle.ensures ∙ w.if-is_settle.true) _ w.drawable_purses.ensures _ _ w.draw-d.ensures.0 w.draw-d.ensures.1
+      | else-is_settle w ↦ w.b-is ∙ drawn_other f (sym c.is_settle.ensures ∙ w.if-is_settle.false)
     ] in
     let k = affected f _ _ _ _ c.is_barred-barred.ensures d c.apply_to_period-r.ensures in
     let x = c.apply_to_period-r in
@@ -130,8 +126,8 @@ pub returns : goal.returns
 returns c =
     let f = found c.args.b c.args.e c.args.words.now _ _ c.requires c.period_of.ensures c.place-j.ensures c.if-b-j.false in
     let d : Drawn c.args.b c.args.e c.place-j.result c.if-is_settle.b = elim c.if-is_settle.branch [
-      then-is_settle w ↦ w.b-is ∙ drawn_settle f (sym c.is_settle.ensures ∙ w.if-is_settle.true) _ w.drawable_purses.ensures _ _ w.draw-d.ensures.0 w.draw-d.ensures.1
-    | else-is_settle w ↦ w.b-is ∙ drawn_other f (sym c.is_settle.ensures ∙ w.if-is_settle.false)
+      | then-is_settle w ↦ w.b-is ∙ drawn_settle f (sym c.is_settle.ensures ∙ w.if-is_settle.true) _ w.drawable_purses.ensures _ _ w.draw-d.ensures.0 w.draw-d.ensures.1
+      | else-is_settle w ↦ w.b-is ∙ drawn_other f (sym c.is_settle.ensures ∙ w.if-is_settle.false)
     ] in
     let k = affected f _ _ _ _ c.is_barred-barred.ensures d c.apply_to_period-r.ensures in
     let x = c.apply_to_period-r in

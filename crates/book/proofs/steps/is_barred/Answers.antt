@@ -1,5 +1,4 @@
 use mathlib.Core.Path.{◌∙◌}
-use mathlib.Core.List.{[], ◌∷◌}
 use Rattle.book.proofs.rules.Passing.{receipt_inside}
 use Rattle.book.proofs.steps.is_barred.Goals as goal
 

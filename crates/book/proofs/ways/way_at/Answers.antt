@@ -1,6 +1,5 @@
-use mathlib.Core.Path.{◌≡◌, sym, ap, ◌∙◌}
-use mathlib.Core.List.{[], ◌∷◌}
-use Rattle.book.specs.layouts.Reading.{ReadOutcome, reading, read_outcome}
+use mathlib.Core.Path.{sym, ap, ◌∙◌}
+use Rattle.book.specs.layouts.Reading.{ReadOutcome}
 use Rattle.book.proofs.layouts.Outcomes.{not_found}
 use Rattle.book.proofs.runs.RunLaws.{read_allowed}
 use Rattle.book.proofs.runs.RunTurns.{decides}
