@@ -6,8 +6,8 @@ use Rattle.book.specs.rules.Valid.{Valid}
 use Rattle.trial.proofs.call_all.Given as goal
 
 abbrev pub invariant-loop-turns : goal.invariant-loop-turns
-invariant-loop-turns l =
-    Valid l.from × (l.b ≤ l.out) × (l.out ≤ 131072) × (l.input ≤ 18446744073709551615) × (l.to.last ≡ More) × (l.bytes.all ≡ true)
+invariant-loop-turns g l =
+    Valid l.b × (l.place ≤ l.filled) × (l.filled ≤ 131072) × (l.turns ≤ 18446744073709551615) × (l.input.last ≡ More) × (l.output.all ≡ true)
 
 abbrev pub decreases-loop-turns : goal.decreases-loop-turns
-decreases-loop-turns l = 18446744073709551615 - l.input
+decreases-loop-turns g l = 18446744073709551615 - l.turns

@@ -4,9 +4,5 @@ use Rattle.book.proofs.Laws.{stays_valid}
 use borrow.Author.Rules.{rules}
 use Rattle.trial.proofs.calling.make.Goals as goal
 
--- UNKNOWN NEED
-slice_aggregate_put_line : tie.Need-slice-aggregate-put-line
-slice_aggregate_put_line c = search rules
-
 pub returns : goal.returns
 returns c = (subst Valid (sym c.new-made.ensures.1) (stays_valid.first _), search rules)

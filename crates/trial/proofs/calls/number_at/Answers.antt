@@ -1,22 +1,21 @@
-use Prim.Native.Nat.{suc, ◌-◌, ◌^◌, ◌<◌}
+use Prim.Native.Nat.{ℕ, suc, ◌-◌, ◌^◌, ◌<◌, ◌≤◌}
 use mathlib.Core.Path.{◌≡◌}
 use native.Mathlib.Omega.{arith}
 use native.Mathlib.Nat.{pow-le-pow_right, pow-suc, le_refl, sub_self, sub-zero}
 use Rattle.trial.proofs.calls.number_at.Goals as goal
-use Rattle.trial.proofs.calls.number_at.Goals.{At-loop-i}
 
-small : (c : At-loop-i) → 0 < c.loop-i.i → c.loop-i.number < 2 ^ 56
-small c h =
-    omega (arith, pow-le-pow_right {n = 256} (omega arith) {i = c.args.width - c.loop-i.i} {j = 7} (omega arith))
+-- fewer than all bytes are passed, and they make a number of 7 bytes at most
+small : {k i v : ℕ} → k ≤ 8 → 0 < i → v < 256 ^ (k - i) → v < 2 ^ 56
+small {k = k} {i = i} few h below = omega (arith, pow-le-pow_right {n = 256} (omega arith) {i = k - i} {j = 7} (omega arith))
 
 pub loop-i-init : goal.loop-i-init
 loop-i-init c = (le_refl _, rw sub_self (omega arith))
 
 pub overflow_mul-number : goal.overflow_mul-number
-overflow_mul-number c = omega (arith, small c.before c.loop-i-test.true)
+overflow_mul-number c = omega (arith, small c.requires.0 c.loop-i-test.true c.loop-i.invariant.1)
 
 pub overflow_add-number : goal.overflow_add-number
-overflow_add-number c = omega (arith, small c.before.before.before c.loop-i-test.true)
+overflow_add-number c = omega (arith, small c.requires.0 c.loop-i-test.true c.loop-i.invariant.1)
 
 pub loop-i-preserved : goal.loop-i-preserved
 loop-i-preserved c =
