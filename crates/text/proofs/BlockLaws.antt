@@ -1,5 +1,5 @@
 -- Bytes moved to the front of a block.
-use Rattle.std.proofs.Common.{◌≡◌, refl, sym, ap, ◌∙◌, ℕ, suc, ◌+◌, ◌-◌, ◌≤◌, ◌<◌, List, ◌++◌, length, set, get_or, take, drop, length-drop, drop-cons, add-one, arith}
+use Rattle.std.proofs.Common.{◌≡◌, refl, sym, ap, ◌∙◌, ℕ, suc, ◌+◌, ◌-◌, ◌≤◌, ◌<◌, List, ◌++◌, length, set, get_or, take, drop, length-append, length-drop, drop-cons, add-one, arith}
 use Rattle.std.proofs.Math.Seq.{length-take-le, take_at, take-add, drop_at, get_or-drop, take-suc, set_at, append_snoc}
 use Rattle.text.specs.Blocks.{kept}
 
@@ -8,6 +8,10 @@ unfolding kept
 kept_none b from = refl
 
 module _ (b : List ℕ) (from i : ℕ) where
+  pub kept_length : i ≤ length b - from → length (kept b from i) ≡ length b
+  unfolding kept
+  kept_length h = omega (arith, length-append (take i (drop from b)) (drop i b), length-take-le i (drop from b) (omega (arith, length-drop from b)), length-drop i b)
+
   -- a byte moved to the front, when those before it are there
   pub kept_more : from + i < length b → set (kept b from i) i (get_or (kept b from i) (from + i) 0) ≡ kept b from (i + 1)
   unfolding kept
