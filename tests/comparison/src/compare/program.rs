@@ -14,27 +14,22 @@ pub const LONGEST: Duration = Duration::from_secs(60);
 /// So many bytes of standard error are told.
 const MOST_SHOWN: usize = 200;
 
-/// What a program printed, and whether a signal ended it.
+/// What a program printed.
 #[derive(Clone, Debug, Default, PartialEq, Eq)]
 pub struct Printed {
     /// On standard output; nothing where that was given to the program.
     pub output: Vec<u8>,
     /// On standard error.
     pub errors: Vec<u8>,
-    /// The number of the signal, where one ended it.
-    pub signal: Option<i32>,
 }
 
 impl Printed {
-    /// The standard output of a program that ended by itself, with nothing to say on standard error.
+    /// The standard output of a program that has nothing to say on standard error.
     pub fn without_errors(self) -> Result<Vec<u8>, String> {
-        match self.signal {
-            Some(signal) => {
-                Err(format!("ended by signal {signal}, standard error {}", shown(&self.errors)))
-            }
-            None if self.errors.is_empty() => Ok(self.output),
-            None => Err(format!("printed on standard error: {}", shown(&self.errors))),
+        if self.errors.is_empty() {
+            return Ok(self.output);
         }
+        Err(format!("printed on standard error: {}", shown(&self.errors)))
     }
 }
 
@@ -63,14 +58,13 @@ fn guard(child: &Mutex<Child>, goes_on: Receiver<()>) -> bool {
     }
 }
 
-/// Does work beside the program at a path: what the work gives, and what the program printed, but for its
-/// standard output. The work knows its process and may say that it goes on, since one that takes too long
-/// is ended.
+/// Does work beside the program at a path: what the work gives, and what the program printed on standard
+/// error. The work knows its process and may say that it goes on, since one that takes too long is ended.
 pub fn run_beside<T>(
     path: &str,
     (input, output): (OwnedFd, OwnedFd),
     work: impl FnOnce(u32, &Sender<()>) -> Result<T, String>,
-) -> Result<(T, Printed), String> {
+) -> Result<(T, Vec<u8>), String> {
     let failed = |what: io::Error| format!("{path}: {what}");
     let mut command = Command::new(path);
     let child = command.stdin(input).stdout(output).stderr(Stdio::piped()).spawn();
@@ -91,15 +85,14 @@ pub fn run_beside<T>(
     });
     let status = child.into_inner().expect("held by no other").wait().map_err(failed)?;
     let (done, errors) = (done?, errors.map_err(failed)?);
-    match status.code() {
-        _ if too_long => Err(format!("{path}: took too long, and was ended ({status})")),
-        None | Some(0) => {
-            Ok((done, Printed { errors, signal: status.signal(), ..Printed::default() }))
-        }
-        Some(code) => {
-            Err(format!("{path}: ended with status {code}, standard error {}", shown(&errors)))
-        }
-    }
+    let end = match (status.code(), status.signal()) {
+        _ if too_long => return Err(format!("{path}: took too long, and was ended ({status})")),
+        (Some(0), _) => return Ok((done, errors)),
+        (Some(code), _) => format!("with status {code}"),
+        (None, Some(signal)) => format!("by signal {signal}"),
+        (None, None) => status.to_string(),
+    };
+    Err(format!("{path}: ended {end}, standard error {}", shown(&errors)))
 }
 
 /// What the program at a path prints for a standard input. Its standard output is read, unless
@@ -109,8 +102,8 @@ pub fn run_on(path: &str, input: OwnedFd, output: Option<OwnedFd>) -> Result<Pri
     let (printed, ours) = io::pipe().map_err(failed)?;
     let output = output.unwrap_or(ours.into());
     let read = |_, _: &_| read_all(printed).map_err(failed);
-    let (output, printed) = run_beside(path, (input, output), read)?;
-    Ok(Printed { output, ..printed })
+    let (output, errors) = run_beside(path, (input, output), read)?;
+    Ok(Printed { output, errors })
 }
 
 /// The standard output of the program at a path for an input. Its standard error must be empty.
@@ -151,6 +144,7 @@ mod tests {
     fn a_status_and_a_signal_are_told() {
         let status = run(SHELL, b"echo one >&2; exit 3").unwrap_err();
         assert!(status.ends_with("ended with status 3, standard error \"one\\n\""), "{status}");
+        assert!(run(SHELL, b"kill -9 $$").unwrap_err().contains("signal"));
         let signal = run(SHELL, b"echo one >&2; kill -9 $$").unwrap_err();
         assert!(signal.ends_with("ended by signal 9, standard error \"one\\n\""), "{signal}");
         let silent = run(SHELL, b"kill -9 $$").unwrap_err();

@@ -11,7 +11,7 @@ mod tests;
 
 pub use plan::Plan;
 
-use crate::compare::program;
+use crate::compare::program::{self, Printed};
 use crate::coverage::Place;
 use crate::report::{grouped, Part};
 use memory::Memory;
@@ -31,7 +31,7 @@ fn run(
     let pipe = || io::pipe().map_err(|error| error.to_string());
     let ((input, to_program), (from_program, output)) = (pipe()?, pipe()?);
     let streams = (input.into(), output.into());
-    let (soaked, printed) = program::run_beside(path, streams, |process, goes_on| {
+    let (soaked, errors) = program::run_beside(path, streams, |process, goes_on| {
         streams::hold(Rotation::new(plan, SEED), to_program, from_program, |so_far| {
             if so_far.entries() >= plan.entries / 10 {
                 memory.take(process);
@@ -40,7 +40,7 @@ fn run(
             part.done();
         })
     })?;
-    printed.without_errors().map(|_| soaked)
+    Printed { errors, ..Printed::default() }.without_errors().map(|_| soaked)
 }
 
 /// Requires that the feed had all that it is meant to have.

@@ -1,5 +1,5 @@
 //! Inputs that cannot be read and outputs that cannot be written: the listing says so in one line
-//! on standard error, and takes no further entry. A pipe that nobody reads ends it before it says so.
+//! on standard error, and takes no further entry. A pipe that nobody reads is such an output.
 
 use super::inputs::{file, packet_sockets, told, write_packets};
 use super::{entry_ends, Run};
@@ -16,25 +16,16 @@ use std::os::fd::OwnedFd;
 use std::os::unix::net::UnixStream;
 use std::thread;
 
-/// The signal that ends a program which writes to a pipe that nobody reads any more.
-const SIGPIPE: i32 = 13;
+pub const NOT_READ: &[u8] = b"listing: standard input cannot be read\n";
+pub const NOT_WRITTEN: &[u8] = b"listing: standard output cannot be written\n";
 /// So many bytes are read of a pipe before its reader is gone.
 const READ_BEFORE: u64 = 10_000;
 
-/// How a program ends: what it says on standard error, and the signal that ends it, if one does.
-pub type End = (&'static [u8], Option<i32>);
-
-pub const UNREAD: End = (b"listing: standard input cannot be read\n", None);
-pub const UNWRITTEN: End = (b"listing: standard output cannot be written\n", None);
-pub const WITHOUT_READER: End = (b"", Some(SIGPIPE));
-
-fn judge_end(wanted: End, printed: &Printed) -> Result<(), String> {
-    let found = (&printed.errors[..], printed.signal);
-    if wanted == found {
+fn judge_errors(wanted: &[u8], printed: &Printed) -> Result<(), String> {
+    if wanted == printed.errors {
         return Ok(());
     }
-    let told = |(errors, signal)| format!("standard error {}, signal {signal:?}", shown(errors));
-    Err(format!("wanted {}, found {}", told(wanted), told(found)))
+    Err(format!("standard error: wanted {}, found {}", shown(wanted), shown(&printed.errors)))
 }
 
 /// Whether a program prints the whole entries that an input gives it, and that it cannot read on.
@@ -43,7 +34,7 @@ fn judge_input(limits: Limits, feed: &[u8], input: OwnedFd, run: &impl Run) -> R
     let whole = entry_ends(feed).pop().map_or(0, |end| end.min(feed.len()));
     match first_difference(&listing_within(limits, &feed[..whole]), &printed.output) {
         Some(difference) => Err(difference),
-        None => judge_end(UNREAD, &printed),
+        None => judge_errors(NOT_READ, &printed),
     }
 }
 
@@ -93,18 +84,18 @@ fn inputs(limits: Limits, run: &impl Run) -> Vec<Failure> {
     unreadable.into_iter().chain(failing).collect()
 }
 
-/// How many bytes of a feed a program reads that cannot write to an output, and ends as it must.
-fn taken(feed: &[u8], output: OwnedFd, end: End, run: &impl Run) -> Result<u64, String> {
+/// How many bytes of a feed a program reads that cannot write to an output, and says so.
+fn taken(feed: &[u8], output: OwnedFd, run: &impl Run) -> Result<u64, String> {
     let mut input = file(feed)?;
     // The copy stands where the program has read to.
     let copy = input.try_clone().map_err(told)?;
-    judge_end(end, &run(copy.into(), Some(output))?)?;
+    judge_errors(NOT_WRITTEN, &run(copy.into(), Some(output))?)?;
     input.stream_position().map_err(told)
 }
 
 /// How a program ends whose output takes no byte.
-fn judge_none(feed: &[u8], output: OwnedFd, end: End, run: &impl Run) -> Result<(), String> {
-    match taken(feed, output, end, run)? {
+fn judge_none(feed: &[u8], output: OwnedFd, run: &impl Run) -> Result<(), String> {
+    match taken(feed, output, run)? {
         0 => Ok(()),
         taken => Err(format!("{taken} bytes were read, though the header could not be written")),
     }
@@ -113,14 +104,14 @@ fn judge_none(feed: &[u8], output: OwnedFd, end: End, run: &impl Run) -> Result<
 /// How a program ends whose output is full from the first byte on.
 fn judge_full(feed: &[u8], run: &impl Run) -> Result<(), String> {
     let full = File::options().write(true).open("/dev/full").map_err(told)?;
-    judge_none(feed, full.into(), UNWRITTEN, run)
+    judge_none(feed, full.into(), run)
 }
 
 /// How a program ends whose output is a pipe without a reader.
 fn judge_without_reader(feed: &[u8], run: &impl Run) -> Result<(), String> {
     let (reader, output) = io::pipe().map_err(told)?;
     drop(reader);
-    judge_none(feed, output.into(), WITHOUT_READER, run)
+    judge_none(feed, output.into(), run)
 }
 
 /// Whether an output took the start of a feed's listing, and not the whole feed was read for it.
@@ -139,7 +130,7 @@ fn judge_filled(limits: Limits, feed: &[u8], run: &impl Run) -> Result<(), Strin
     let (ours, output) = UnixStream::pair().map_err(told)?;
     // A write would have to wait until bytes are read here, and is told not to.
     output.set_nonblocking(true).map_err(told)?;
-    let taken = taken(feed, output.into(), UNWRITTEN, run)?;
+    let taken = taken(feed, output.into(), run)?;
     judge_start(limits, feed, &read_all(ours).map_err(told)?, taken)
 }
 
@@ -148,7 +139,7 @@ fn judge_left(limits: Limits, feed: &[u8], run: &impl Run) -> Result<(), String>
     let (ours, output) = io::pipe().map_err(told)?;
     thread::scope(|scope| {
         let reader = scope.spawn(|| read_all(ours.take(READ_BEFORE)));
-        let taken = taken(feed, output.into(), WITHOUT_READER, run)?;
+        let taken = taken(feed, output.into(), run)?;
         let read = reader.join().expect("a reader ends").map_err(told)?;
         judge_start(limits, feed, &read, taken)
     })

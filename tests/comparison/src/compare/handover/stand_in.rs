@@ -1,6 +1,6 @@
 //! A listing in this process that reads in blocks, right or wrong in a chosen way.
 
-use super::failures::{End, UNREAD, UNWRITTEN, WITHOUT_READER};
+use super::failures::{NOT_READ, NOT_WRITTEN};
 use super::{Run, BLOCK};
 use crate::compare::program::Printed;
 use reckoning::programs::listing::listing_within;
@@ -9,8 +9,6 @@ use reckoning::rules::limits::Limits;
 use std::fs::File;
 use std::io::{ErrorKind, Read, Write};
 use std::os::fd::OwnedFd;
-
-const SILENT: End = (b"", None);
 
 /// What a listing does wrong.
 #[derive(Clone, Copy, Debug, PartialEq, Eq)]
@@ -33,13 +31,11 @@ pub enum Wrong {
     SaysMore,
     /// Lists an entry's part where the input fails.
     ListsPart,
-    /// Reads on where its output fails, but for a pipe without a reader.
+    /// Reads on where its output fails.
     ReadsOn,
-    /// Says that it cannot write to a pipe without a reader, and is not ended.
-    SaysWithoutReader,
-    /// Is not ended there, and says nothing.
+    /// Says nothing where its output is a pipe without a reader, and where else it fails says so.
     SilentWithoutReader,
-    /// Reads on there before it is ended.
+    /// Reads on there alone.
     ReadsOnWithoutReader,
 }
 
@@ -67,9 +63,12 @@ impl StandIn {
             self.lost = written.err().map(|error| error.kind());
             self.printed = text;
         }
-        let reads_on =
-            if self.has_no_reader() { Wrong::ReadsOnWithoutReader } else { Wrong::ReadsOn };
-        self.lost.is_none() || self.wrong == reads_on
+        let reads_on = match self.wrong {
+            Wrong::ReadsOn => true,
+            Wrong::ReadsOnWithoutReader => self.has_no_reader(),
+            _ => false,
+        };
+        self.lost.is_none() || reads_on
     }
 
     fn has_no_reader(&self) -> bool {
@@ -117,19 +116,16 @@ impl StandIn {
         let failed = begun && self.read(input);
         let part = !failed || self.wrong == Wrong::ListsPart;
         self.print(if part { self.feed.len() } else { self.whole });
-        let (errors, signal) = match self.wrong {
-            Wrong::SaysWithoutReader if self.has_no_reader() => UNWRITTEN,
-            Wrong::SilentWithoutReader if self.has_no_reader() => SILENT,
-            // This process ignores the signal that ends a program there.
-            _ if self.has_no_reader() => WITHOUT_READER,
-            Wrong::SilentOnOutput if self.lost.is_some() => SILENT,
-            Wrong::SilentOnInput if failed => SILENT,
-            _ if self.lost.is_some() => UNWRITTEN,
-            _ if failed => UNREAD,
-            Wrong::SaysMore => (&b"listing: done\n"[..], None),
-            _ => SILENT,
+        let errors: &[u8] = match self.wrong {
+            Wrong::SilentOnOutput if self.lost.is_some() => b"",
+            Wrong::SilentWithoutReader if self.has_no_reader() => b"",
+            Wrong::SilentOnInput if failed => b"",
+            _ if self.lost.is_some() => NOT_WRITTEN,
+            _ if failed => NOT_READ,
+            Wrong::SaysMore => b"listing: done\n",
+            _ => b"",
         };
-        Printed { output: self.printed, errors: errors.to_vec(), signal }
+        Printed { output: self.printed, errors: errors.to_vec() }
     }
 }
 

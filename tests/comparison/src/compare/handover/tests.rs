@@ -95,7 +95,6 @@ fn failures_tell_where_nothing_is_said_and_where_the_listing_goes_on() {
             Wrong::ListsPart,
             Wrong::HeaderAfterRead,
             Wrong::ReadsOn,
-            Wrong::SaysWithoutReader,
             Wrong::SilentWithoutReader,
             Wrong::ReadsOnWithoutReader,
         ] {
