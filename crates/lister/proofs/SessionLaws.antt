@@ -223,14 +223,14 @@ module _ {limits : Limits} {feed words' : List ℕ} {z : Standing} {i : input.In
     pub left_few : filled - z.place ≤ 255
     left_few = omega (arith, size, length-drop z.place bytes, short_few (drop z.place bytes) short.1.2)
 
-    module _ {feed' feed'' : List ℕ} {filled' : ℕ} {r : Fetched} (k : (filled' ≡ filled - z.place) × (feed' ≡ kept feed z.place (filled - z.place)))
+    module _ {feed' feed'' : List ℕ} {filled' : ℕ} {r : Fetched} (count : filled' ≡ filled - z.place) (moved : feed' ≡ kept feed z.place (filled - z.place))
         (f : Fetches i.total feed' filled' feed'' r) where
       abbrev piece : List ℕ
       piece = drop filled' (take r.filled feed'')
 
       whole : take r.filled feed'' ≡ drop z.place bytes ++ piece
       whole = fetched_front f ∙ ap (λ (l : List ℕ). l ++ piece)
-          (ap₂ take k.0 k.1 ∙ kept_front feed z.place filled g.there (omega (arith, size, block.wrote.ready.within)))
+          (ap₂ take count moved ∙ kept_front feed z.place filled g.there (omega (arith, size, block.wrote.ready.within)))
 
       piece_size : length piece ≡ r.filled - filled'
       piece_size = omega (arith, length-drop filled' (take r.filled feed''), length-take-le r.filled feed'' f.within)
