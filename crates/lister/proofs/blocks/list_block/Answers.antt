@@ -1,4 +1,4 @@
-use Rattle.std.proofs.Common.{◌≡◌, ◌-◌, ℕ, Bool, false, cond, eqb, List, length, take, drop, sym, ap, ◌∙◌, arith}
+use Rattle.std.proofs.Common.{◌≡◌, ◌-◌, ℕ, Bool, false, cond, eqb, List, length, take, drop, sym, ap, ◌∙◌}
 use Rattle.book.specs.layouts.Reading.{reading}
 use Rattle.lister.proofs.BlockTurns.{part_rest, block_again, block_read, block_done}
 use Rattle.lister.proofs.blocks.list_block.Goals as goal

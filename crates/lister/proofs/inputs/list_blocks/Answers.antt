@@ -41,8 +41,7 @@ returns-then-not-is_written g c =
 pub loop-turns-preserved-in-Again : goal.loop-turns-preserved-in-Again
 loop-turns-preserved-in-Again g c =
     let written = sym c.is_written.ensures ∙ c.if-not-is_written.false in
-    let block = rw c.has_ended-ended.ensures at c.list_block-t.ensures in
-    (
+    let block = rw c.has_ended-ended.ensures at c.list_block-t.ensures in (
       λ limits e. turn_again (turned _ (c.loop-turns.invariant.0 limits e) c.part.ensures block c.write_out-w.ensures) c.in-Again.is written,
       omega (arith, c.loop-turns-test.true),
     )
@@ -66,12 +65,12 @@ pub read_more-r-requires-clause-room : goal.read_more-r-requires-clause-room
 read_more-r-requires-clause-room g c =
     let n : length c.keep-filled.new.block ≡ 65536 = search rules in
     let few : c.loop-turns.filled - c.list_block-t.result.place ≤ 255 =
-        let book = ap (λ (x : Standing). x.book) c.at_first-s.ensures ∙ c.first_book-first.ensures in
-        let going = c.loop-turns.invariant.0 c.args.limits book in
-        let block = rw c.has_ended-ended.ensures at c.list_block-t.ensures in
-        let after = turned _ going c.part.ensures block c.write_out-w.ensures in
-        let written = sym c.is_written.ensures ∙ c.if-not-is_written.false in
-        left_few after c.in-Read.is written in
+    let book = ap (λ (x : Standing). x.book) c.at_first-s.ensures ∙ c.first_book-first.ensures in
+    let going = c.loop-turns.invariant.0 c.args.limits book in
+    let block = rw c.has_ended-ended.ensures at c.list_block-t.ensures in
+    let after = turned _ going c.part.ensures block c.write_out-w.ensures in
+    let written = sym c.is_written.ensures ∙ c.if-not-is_written.false in
+    left_few after c.in-Read.is written in
     omega (arith, n, c.keep-filled.ensures.count, few)
 
 pub returns-then-has_failed : goal.returns-then-has_failed
@@ -87,8 +86,7 @@ returns-then-has_failed g c =
 pub loop-turns-preserved : goal.loop-turns-preserved
 loop-turns-preserved g c =
     let written = sym c.is_written.ensures ∙ c.if-not-is_written.false in
-    let block = rw c.has_ended-ended.ensures at c.list_block-t.ensures in
-    (
+    let block = rw c.has_ended-ended.ensures at c.list_block-t.ensures in (
       λ limits e. turn_read (turned _ (c.loop-turns.invariant.0 limits e) c.part.ensures block c.write_out-w.ensures) c.in-Read.is written c.keep-filled.ensures.count c.keep-filled.ensures.moved c.read_more-r.ensures (sym c.has_failed.ensures ∙ c.if-has_failed.false),
       omega (arith, c.loop-turns-test.true),
     )

@@ -1,4 +1,4 @@
-use Rattle.std.proofs.Common.{◌≡◌, arith, rules, eq-eqb, ne_eqb}
+use Rattle.std.proofs.Common.{◌≡◌, arith, eq-eqb, ne_eqb}
 use Rattle.text.proofs.PutLaws.{puts_then, puts_none}
 use Rattle.lister.specs.Lines.{pay_line}
 use Rattle.lister.proofs.lines.put_pay.Goals as goal

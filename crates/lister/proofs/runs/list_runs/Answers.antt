@@ -1,4 +1,4 @@
-use Rattle.std.proofs.Common.{◌≡◌, ◌-◌, length, arith, rules}
+use Rattle.std.proofs.Common.{◌≡◌, length, arith, rules}
 use Rattle.lister.proofs.RunTurns.{begins, returned, few_lines, less, ends, goes, stays}
 use Rattle.lister.proofs.runs.list_runs.Goals as goal
 

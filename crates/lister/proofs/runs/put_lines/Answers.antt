@@ -1,4 +1,4 @@
-use Rattle.std.proofs.Common.{◌≡◌, ◌+◌, ◌-◌, ◌%◌, ◌^◌, add-one, arith, rules}
+use Rattle.std.proofs.Common.{◌≡◌, ◌+◌, ◌%◌, ◌^◌, add-one, arith, rules}
 use Rattle.text.proofs.PutLaws.{puts_then, puts_none, puts_length}
 use Rattle.lister.specs.inner.Runs.{lines_to}
 use Rattle.lister.proofs.LineLaws.{line_mod}
