@@ -27,6 +27,11 @@ pub length_zero : (s : List ℕ) → length s ≡ 0 → s ≡ []
 length_zero [] h = refl
 length_zero (x ∷ s) h = absurd (omega arith)
 
+pub end_none : (number held : ℕ) (s : List ℕ) → length s ≡ 0 → end_line number held s ≡ []
+unfolding end_line
+end_none number held [] h = refl
+end_none number held (x ∷ s) h = absurd (omega arith)
+
 pub end_some : (number held : ℕ) (s : List ℕ) → (length s ≡ 0 → ⊥) → end_line number held s ≡ entry_line number (reading s 0).answer 0 held
 unfolding end_line
 end_some number held [] h = absurd (h refl)

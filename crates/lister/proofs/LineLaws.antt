@@ -4,7 +4,7 @@ use lib.ListN.{get_or-append}
 use lib.Seq.{sets, sets-eq}
 use Rattle.exact.specs.Rows.{places}
 use Rattle.exact.proofs.Cases.{le_or_lt}
-use Rattle.lister.specs.Lines.{entry_line, pay_line, pay_lines}
+use Rattle.lister.specs.Lines.{with_space, with_newline, entry_line, pay_line, pay_lines}
 use Rattle.lister.specs.inner.Runs.{lines_to, last_paid, run_lines}
 
 module _ (a p h : ℕ) (lines : List ℕ) where
@@ -76,6 +76,25 @@ run_stored first count old lines words n h = run_cong (sets old 0 lines) lines f
 pub line_mod : (m k answer paid held : ℕ) → m % 2 ^ 64 ≡ k % 2 ^ 64 → entry_line m answer paid held ≡ entry_line k answer paid held
 unfolding entry_line
 line_mod m k answer paid held h = rw h
+
+-- the line of a payout of nothing, and of one of some cents
+pub pay_none : (participant cents : ℕ) → cents ≡ 0 → pay_line participant cents ≡ []
+unfolding pay_line
+pay_none participant cents z = rw (eq-eqb cents 0 z)
+
+pub pay_some : (participant cents : ℕ) → (cents ≡ 0 → ⊥) → pay_line participant cents ≡ (112 ∷ 97 ∷ 121 ∷ 32 ∷ []) ++ with_space participant ++ with_newline cents
+unfolding pay_line
+pay_some participant cents h = rw (ne_eqb cents 0 h)
+
+-- the lines of a run whose last entry has paid nothing, and of one whose last entry has paid
+pub run_alone : (first : ℕ) (lines : List ℕ) (count : ℕ) (words : List ℕ) → last_paid lines count ≡ 0 → run_lines first lines count words ≡ lines_to first lines count
+unfolding run_lines
+run_alone first lines count words z = rw (eq-eqb (last_paid lines count) 0 z) (append-nil (lines_to first lines count))
+
+pub run_pays : (first : ℕ) (lines : List ℕ) (count : ℕ) (words : List ℕ) → (last_paid lines count ≡ 0 → ⊥)
+    → run_lines first lines count words ≡ lines_to first lines count ++ pay_lines words places
+unfolding run_lines
+run_pays first lines count words h = rw (ne_eqb (last_paid lines count) 0 h)
 
 -- payouts of nothing, and participants from n on that are paid nothing
 pub pays_none : (words : List ℕ) (n : ℕ) → ((i : ℕ) → i < n → get_or words i 0 ≡ 0) → pay_lines words n ≡ []

@@ -66,6 +66,7 @@ fn answer_at_front(left: &[u8]) -> u64
 }
 
 // The end of a listing before the bytes left: the line of an entry that cannot be read, where there are any.
+#[tactic(auto, using(crate::proofs::BlockTurns::end_none, crate::proofs::BlockTurns::end_some))]
 fn put_end(out: &mut Out, place: usize, number: u64, held: u64, left: &[u8]) -> usize
     requires { place ≤ waiting }
     ensures puts { Puts out.old place (end_line number held left.now) out.new result }

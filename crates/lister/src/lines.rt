@@ -45,6 +45,7 @@ pub fn put_line(
 }
 
 // The line of a payout, where there is one.
+#[tactic(auto, using(crate::proofs::LineLaws::pay_none))]
 fn put_pay(out: &mut [u8], place: usize, participant: u64, cents: u64) -> usize
     requires { place + pay_room ≤ length out.old }
     ensures puts { Puts out.old place (pay_line participant cents) out.new result }

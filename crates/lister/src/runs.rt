@@ -42,6 +42,7 @@ fn last_paid(lines: &Lines, count: usize) -> u64
 }
 
 // The lines of a run: those of its entries and, where the last of them has paid, those of its payouts.
+#[tactic(auto, using(crate::proofs::LineLaws::run_alone))]
 fn put_run(
     out: &mut Out,
     place: usize,
