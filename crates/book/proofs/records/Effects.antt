@@ -15,7 +15,7 @@ use Rattle.settlement.specs.declared.groups.Grouping.{Grouping}
 use Rattle.book.specs.Checks.{refusal}
 use Rattle.book.specs.rules.Kinds.{receipt_cents}
 use Rattle.book.specs.rules.Periods.{leaves, changed}
-use Rattle.book.specs.rules.State.{view, pack, cents_held, held_by, no_period, removed}
+use Rattle.book.specs.rules.State.{State, view, pack, cents_held, held_by, no_period, removed}
 use Rattle.book.specs.rules.Purses.{purses_after, after_drawing}
 use Rattle.book.specs.rules.Refusals.{period_checks, barring}
 use Rattle.book.specs.rules.Step.{payout_words, Reply, reply, paid_by}
@@ -30,7 +30,7 @@ use Rattle.book.proofs.rules.StepLaws.{stored_leaves, stored_stays}
 use Rattle.book.proofs.rules.WordLaws.{payout_sum}
 use Rattle.book.proofs.records.Packing.{renewed, put, stored}
 use Rattle.book.proofs.records.Replies.{reply_refused, accepts}
-use Rattle.book.proofs.records.Named.{Found, found_period, drawn_read, found_in_book, found_checks, found_settles, found_still, held_fits, held_within, Passed, passed_checks, passed_accepted, passed_changes, held_stays, held_leaves, stores}
+use Rattle.book.proofs.records.Named.{Found, found_period, drawn_read, drawn_view, stored_over, found_in_book, found_checks, found_settles, found_still, held_fits, held_within, Passed, passed_checks, passed_accepted, passed_changes, held_stays, held_leaves, stores}
 
 module _ (n : ℕ) (grouping : Grouping) (e : Entry) (barred : Bool) (p : Period) (held : ℕ) (w : List ℕ) where
   pub effect_accepted : refusal (period_checks n barred e p) ≡ 0 → effect n grouping e barred p held w ≡ record {
@@ -178,3 +178,12 @@ pub affected : {s : Book} {e : Entry} {w : List ℕ} {j : ℕ} (f : Found s e w 
     → barred ≡ barring e (view s).periods → Drawn s e j b
     → effect_of r after ≡ effect b.n b.grouping e barred (get_or b.periods j no_period) b.held w → Affected s e w r after
 affected f b barred r after same d q = rw (same, d, drawn_read f) at q
+
+-- what is left in the book: the period was taken out, or put back over what was drawn
+module _ {s : Book} {e : Entry} {w : List ℕ} {j : ℕ} (f : Found s e w j) {b : Book} (d : Drawn s e j b) (r : effects.Effect) (after : List ℕ) (k : Affected s e w r after) where
+  pub taken_out : leaves b.n r.period ≡ true → (left : Book) → left ≡ pack (removed (view b) j) → left ≡ (reply s (record { entry = e; words = w })).book
+  taken_out l left q =
+      (rw d at q) ∙ ap (λ (x : State). pack (removed x j)) (drawn_view f) ∙ ap (λ (x : Reply). x.book) (reply_leaves f _ k (rw d at l))
+
+  pub put_back : leaves b.n r.period ≡ false → put b j r.period r.held b.purses ≡ (reply s (record { entry = e; words = w })).book
+  put_back l = stored_over f d r.period r.held ∙ ap (λ (x : Reply). x.book) (reply_stays f _ k (rw d at l))

@@ -4,7 +4,7 @@ use borrow.Author.Tests.{not-true, not-false}
 use Rattle.settlement.proofs.Laws.{notice_due}
 use Rattle.exports.specs.Slices.{left}
 use Rattle.exports.specs.Answers.{scaled_of}
-use Rattle.exports.proofs.OrderLaws.{received_fitting}
+use Rattle.exports.proofs.OrderLaws.{passed_fitting}
 use Rattle.exports.proofs.clearing_scaled.Goals as goal
 
 pub returns-then-not-checked : goal.returns-then-not-checked
@@ -17,23 +17,17 @@ returns-then-not-checked c =
 pub scaled_of-scaled-requires : goal.scaled_of-scaled-requires
 scaled_of-scaled-requires c =
     let passed = not-false _ c.if-not-checked.false in
-    let k = received_fitting _ _ _ _ _ _ _ (sym c.check_receipts-checked.ensures.passed ∙ passed) in
+    let k = passed_fitting _ _ c.check_receipts-checked.ensures.passed c.if-not-checked.false in
     (k.sound.0, omega (arith, k.roomy), rw (c.check_receipts-checked.ensures.payable passed) (notice_due _ _))
 
 pub put_row-requires : goal.put_row-requires
-put_row-requires c =
-    let k = received_fitting _ _ _ _ _ _ _ (sym c.check_receipts-checked.ensures.passed ∙ not-false _ c.if-not-checked.false) in
-    omega (arith, k.roomy, c.shorter-room.ensures, c.shorter.ensures)
+put_row-requires c = omega (arith, (passed_fitting _ _ c.check_receipts-checked.ensures.passed c.if-not-checked.false).roomy, c.shorter-room.ensures, c.shorter.ensures)
 
 pub put_row-requires-2 : goal.put_row-requires-2
-put_row-requires-2 c =
-    let k = received_fitting _ _ _ _ _ _ _ (sym c.check_receipts-checked.ensures.passed ∙ not-false _ c.if-not-checked.false) in
-    omega (arith, k.roomy, c.shorter-room.ensures, c.shorter.ensures)
+put_row-requires-2 c = omega (arith, (passed_fitting _ _ c.check_receipts-checked.ensures.passed c.if-not-checked.false).roomy, c.shorter-room.ensures, c.shorter.ensures)
 
 pub put_row-requires-3 : goal.put_row-requires-3
-put_row-requires-3 c =
-    let k = received_fitting _ _ _ _ _ _ _ (sym c.check_receipts-checked.ensures.passed ∙ not-false _ c.if-not-checked.false) in
-    omega (arith, k.roomy, c.shorter-room.ensures, c.shorter.ensures)
+put_row-requires-3 c = omega (arith, (passed_fitting _ _ c.check_receipts-checked.ensures.passed c.if-not-checked.false).roomy, c.shorter-room.ensures, c.shorter.ensures)
 
 -- so the answer is that of the notice's retention
 pub returns : goal.returns

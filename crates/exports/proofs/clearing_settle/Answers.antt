@@ -8,7 +8,7 @@ use Rattle.settlement.specs.Settling.{rounds}
 use Rattle.settlement.proofs.Laws.{retention_sound, notice_due, rounds_le}
 use Rattle.exports.specs.Slices.{row_of, month_of, grouping_of, retention_of, left}
 use Rattle.exports.specs.Answers.{settled_of}
-use Rattle.exports.proofs.OrderLaws.{received_fitting}
+use Rattle.exports.proofs.OrderLaws.{passed_fitting}
 use Rattle.exports.proofs.clearing_settle.Goals as goal
 
 pub returns-then-not-checked : goal.returns-then-not-checked
@@ -21,23 +21,17 @@ returns-then-not-checked c =
 pub settled_of-settled-requires : goal.settled_of-settled-requires
 settled_of-settled-requires c =
     let passed = not-false _ c.if-not-checked.false in
-    let k = received_fitting _ _ _ _ _ _ _ (sym c.check_receipts-checked.ensures.passed ∙ passed) in
+    let k = passed_fitting _ _ c.check_receipts-checked.ensures.passed c.if-not-checked.false in
     (k.sound.0, omega (arith, k.roomy), rw (c.check_receipts-checked.ensures.payable passed) (notice_due _ _))
 
 pub put_row-requires : goal.put_row-requires
-put_row-requires c =
-    let k = received_fitting _ _ _ _ _ _ _ (sym c.check_receipts-checked.ensures.passed ∙ not-false _ c.if-not-checked.false) in
-    omega (arith, k.roomy, c.shorter-room.ensures, c.shorter.ensures)
+put_row-requires c = omega (arith, (passed_fitting _ _ c.check_receipts-checked.ensures.passed c.if-not-checked.false).roomy, c.shorter-room.ensures, c.shorter.ensures)
 
 pub put_row-requires-2 : goal.put_row-requires-2
-put_row-requires-2 c =
-    let k = received_fitting _ _ _ _ _ _ _ (sym c.check_receipts-checked.ensures.passed ∙ not-false _ c.if-not-checked.false) in
-    omega (arith, k.roomy, c.shorter-room.ensures, c.shorter.ensures)
+put_row-requires-2 c = omega (arith, (passed_fitting _ _ c.check_receipts-checked.ensures.passed c.if-not-checked.false).roomy, c.shorter-room.ensures, c.shorter.ensures)
 
 pub put_row-requires-3 : goal.put_row-requires-3
-put_row-requires-3 c =
-    let k = received_fitting _ _ _ _ _ _ _ (sym c.check_receipts-checked.ensures.passed ∙ not-false _ c.if-not-checked.false) in
-    omega (arith, k.roomy, c.shorter-room.ensures, c.shorter.ensures)
+put_row-requires-3 c = omega (arith, (passed_fitting _ _ c.check_receipts-checked.ensures.passed c.if-not-checked.false).roomy, c.shorter-room.ensures, c.shorter.ensures)
 
 -- so the answer is that of the notice's retention, and its rounds are at most 64
 pub returns : goal.returns
@@ -53,7 +47,7 @@ returns c =
     let retained = retention_of a.n a.by.now a.to.now a.groups.now a.reserves.now in
     let received = row_of a.received.now in
     let few = rounds_le m retained received (retention_sound m (grouping_of a.groups.now a.reserves.now)) in
-    let k = received_fitting _ _ _ _ _ _ _ (sym c.check_receipts-checked.ensures.passed ∙ passed) in
+    let k = passed_fitting _ _ c.check_receipts-checked.ensures.passed c.if-not-checked.false in
     let few_rounds : leb c.settled_of-settled.result.rounds places ≡ true =
     rw answer (le-leb (rounds m retained received) places (omega (arith, few, k.sound.0.to_side.few)))
     in

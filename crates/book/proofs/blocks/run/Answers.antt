@@ -8,9 +8,9 @@ use lib.ListN.{length}
 use lib.Seq.{sets}
 use Rattle.exact.specs.Rows.{places, at}
 use Rattle.book.specs.rules.Periods.{raised, zeros}
-use Rattle.book.specs.rules.State.{State, view, pack, held_by, removed}
+use Rattle.book.specs.rules.State.{State, view, held_by, removed}
 use Rattle.book.specs.rules.Purses.{purse_limit}
-use Rattle.book.specs.rules.Step.{payout_words, Reply, reply}
+use Rattle.book.specs.rules.Step.{payout_words, reply}
 use Rattle.book.specs.rules.Valid.{Valid}
 use Rattle.book.specs.inner.Ways.{ReadAt}
 use Rattle.book.specs.declared.Book.{Book}
@@ -18,8 +18,8 @@ use Rattle.book.specs.declared.ways.Way.TheVariants as way
 use Rattle.book.proofs.rules.LimitLaws.{many_places}
 use Rattle.book.proofs.records.Packing.{count_is, count_few, kept_held, read_in_book}
 use Rattle.book.proofs.records.Bounds.{arrears_bound, held_bound}
-use Rattle.book.proofs.records.Named.{drawn_valid, drawn_view, drawn_read, drawn_other, drawn_settle, stored_over}
-use Rattle.book.proofs.records.Effects.{Drawn, affected, found_affects, effect_sound, reply_stays, leaves_held, reply_leaves}
+use Rattle.book.proofs.records.Named.{drawn_valid, drawn_view, drawn_read, drawn_other, drawn_settle}
+use Rattle.book.proofs.records.Effects.{Drawn, affected, found_affects, effect_sound, leaves_held, taken_out, put_back}
 use Rattle.book.proofs.runs.RunLaws.{begins, full_ends, unread_ends, turn_on, turn_ends}
 use Rattle.book.proofs.runs.RunTurns.{named_read, named_found, effect_turn, opens_read, raises_read, refused_read, refused_turn, opens_fits, opens_turn, raises_fits, raises_turn, amounts_on, amounts_some}
 use Rattle.book.proofs.blocks.run.Goals as goal
@@ -167,18 +167,14 @@ loop-lines-preserved-else-r-ne0 c =
       | else-is_settle w ↦ w.b-is ∙ drawn_other f (sym c.is_settle.ensures ∙ w.if-is_settle.false)
     ] in
     let k = affected f _ _ _ _ c.is_barred-barred.ensures d c.apply_to_period-r.ensures in
-    let leaving = rw d at c.is_leaving.ensures in
     let left : c.if-is_leaving.b ≡ (reply l.b (record { entry = c.in-Named.entry; words = l.words })).book = elim c.if-is_leaving.branch [
-      | then-is_leaving w ↦
-          w.b-is ∙ (rw d at w.without_period-left.ensures) ∙ ap (λ (s : State). pack (removed s c.in-Named.j)) (drawn_view f)
-          ∙ ap (λ (r : Reply). r.book) (reply_leaves f _ k (sym leaving ∙ w.if-is_leaving.true))
-      | else-is_leaving w ↦
-          w.b-is ∙ stored_over f d c.apply_to_period-r.result.period c.apply_to_period-r.result.held
-          ∙ ap (λ (r : Reply). r.book) (reply_stays f _ k (sym leaving ∙ w.if-is_leaving.false))
+      | then-is_leaving w ↦ w.b-is ∙ taken_out f d _ _ k (sym c.is_leaving.ensures ∙ w.if-is_leaving.true) _ w.without_period-left.ensures
+      | else-is_leaving w ↦ w.b-is ∙ put_back f d _ _ k (sym c.is_leaving.ensures ∙ w.if-is_leaving.false)
     ] in
     let t = effect_turn f _ k l.lines l.wrote _ _ left
     (c.put_line.ensures ∙ (λ z. sets l.lines l.wrote (c.number.ensures z ∷ c.apply_to_period-r.result.paid ∷ c.apply_to_period-r.result.held ∷ []))) in
-    (turn_on _ _ _ _ _ l.invariant.0 _ _ (named_read c.in-Named.ensures).0 c.loop-lines-test.true _ _ _ _ t c.if-r-ne0.false, c.apply_to_period-r.auto.words ∙ l.invariant.1)
+    let nothing : c.apply_to_period-r.result.paid ≡ 0 = omega (arith, c.if-r-ne0.false) in
+    (turn_on _ _ _ _ _ l.invariant.0 _ _ (named_read c.in-Named.ensures).0 c.loop-lines-test.true _ _ _ _ t nothing, c.apply_to_period-r.auto.words ∙ l.invariant.1)
 
 pub with_opened-left-requires : goal.with_opened-left-requires
 with_opened-left-requires c =
@@ -295,18 +291,13 @@ returns-then-r-ne0 c =
       | else-is_settle w ↦ w.b-is ∙ drawn_other f (sym c.is_settle.ensures ∙ w.if-is_settle.false)
     ] in
     let k = affected f _ _ _ _ c.is_barred-barred.ensures d c.apply_to_period-r.ensures in
-    let leaving = rw d at c.is_leaving.ensures in
     let left : c.if-is_leaving.b ≡ (reply l.b (record { entry = c.in-Named.entry; words = l.words })).book = elim c.if-is_leaving.branch [
-      | then-is_leaving w ↦
-          w.b-is ∙ (rw d at w.without_period-left.ensures) ∙ ap (λ (s : State). pack (removed s c.in-Named.j)) (drawn_view f)
-          ∙ ap (λ (r : Reply). r.book) (reply_leaves f _ k (sym leaving ∙ w.if-is_leaving.true))
-      | else-is_leaving w ↦
-          w.b-is ∙ stored_over f d c.apply_to_period-r.result.period c.apply_to_period-r.result.held
-          ∙ ap (λ (r : Reply). r.book) (reply_stays f _ k (sym leaving ∙ w.if-is_leaving.false))
+      | then-is_leaving w ↦ w.b-is ∙ taken_out f d _ _ k (sym c.is_leaving.ensures ∙ w.if-is_leaving.true) _ w.without_period-left.ensures
+      | else-is_leaving w ↦ w.b-is ∙ put_back f d _ _ k (sym c.is_leaving.ensures ∙ w.if-is_leaving.false)
     ] in
     let t = effect_turn f _ k l.lines l.wrote _ _ left
     (c.put_line.ensures ∙ (λ z. sets l.lines l.wrote (c.number.ensures z ∷ c.apply_to_period-r.result.paid ∷ c.apply_to_period-r.result.held ∷ []))) in
-    turn_ends _ _ _ _ _ l.invariant.0 _ _ (named_read c.in-Named.ensures).0 c.loop-lines-test.true _ _ _ _ t c.if-r-ne0.true
+    turn_ends _ _ _ _ _ l.invariant.0 _ _ (named_read c.in-Named.ensures).0 c.loop-lines-test.true _ _ _ _ t (λ z. omega (arith, z, c.if-r-ne0.true))
 
 pub shape_of-words-in-Unread : goal.shape_of-words-in-Unread
 shape_of-words-in-Unread c = c.loop-lines.invariant.1

@@ -54,7 +54,7 @@ change_period-c-requires c =
     )
 
 pub put_cells-requires : goal.put_cells-requires
-put_cells-requires c = (c.requires.many, c.requires.enough)
+put_cells-requires c = (omega (arith, c.requires.many), omega (arith, c.requires.enough))
 
 pub overflow_add-came : goal.overflow_add-came
 overflow_add-came c = omega (arith, c.receipt_cents.ensures, c.requires.fits)

@@ -20,13 +20,10 @@ use Rattle.book.proofs.records.Effects.{Drawn, affected, found_affects, effect_s
 use Rattle.book.proofs.steps.change_named.Goals as goal
 use Rattle.book.proofs.steps.change_named.Goals.{then-is_settle, else-is_settle}
 
--- what is asked of the call
-abbrev Asked : (b : Book) (e : Entry) (w : List ℕ) → Type 0
-Asked b e w = Valid b × Entered (view b) (record { entry = e; words = w }) × (is_open e ≡ false) × (is_purse e ≡ false)
-
 -- where the period that the entry names was found
-found : (b : Book) (e : Entry) (w : List ℕ) (j k : ℕ) → Asked b e w → k ≡ period_of e → min j b.count ≡ find k (view b).periods → j < b.count → Found b e w j
-found b e w j k r named at_j used = record {
+found : {b : Book} {e : Entry} {w : List ℕ} {j k : ℕ} → Valid b × Entered (view b) (record { entry = e; words = w }) × (is_open e ≡ false) × (is_purse e ≡ false)
+    → k ≡ period_of e → min j b.count ≡ find k (view b).periods → j < b.count → Found b e w j
+found r named at_j used = record {
   valid = r.0;
   entered = r.1;
   not_open = r.2;
@@ -44,35 +41,35 @@ returns-then-b-j c =
     (not_found r.0 _ _ r.1 r.2 r.3 (omega (arith, count_is r.0, at_place, c.if-b-j.true))) (λ z. omega (arith, z))
 
 pub is_barred-barred-requires : goal.is_barred-barred-requires
-is_barred-barred-requires c = let f = found c.args.b c.args.e c.args.words.now _ _ c.requires c.period_of.ensures c.place-j.ensures c.if-b-j.false in (f.valid, f.entered.fields)
+is_barred-barred-requires c = let f = found c.requires c.period_of.ensures c.place-j.ensures c.if-b-j.false in (f.valid, f.entered.fields)
 
 pub offset_bounds-b-j : goal.offset_bounds-b-j
-offset_bounds-b-j c = let f = found c.args.b c.args.e c.args.words.now _ _ c.requires c.period_of.ensures c.place-j.ensures c.if-b-j.false in omega (arith, count_few f.valid, f.used)
+offset_bounds-b-j c = let f = found c.requires c.period_of.ensures c.place-j.ensures c.if-b-j.false in omega (arith, count_few f.valid, f.used)
 
 pub bounds-b-j : goal.bounds-b-j
-bounds-b-j c = let f = found c.args.b c.args.e c.args.words.now _ _ c.requires c.period_of.ensures c.place-j.ensures c.if-b-j.false in omega (arith, count_few f.valid, f.used)
+bounds-b-j c = let f = found c.requires c.period_of.ensures c.place-j.ensures c.if-b-j.false in omega (arith, count_few f.valid, f.used)
 
 pub drawable_purses-requires : goal.drawable_purses-requires
-drawable_purses-requires c = (found c.args.b c.args.e c.args.words.now _ _ c.requires c.period_of.ensures c.place-j.ensures c.if-b-j.false).valid
+drawable_purses-requires c = (found c.requires c.period_of.ensures c.place-j.ensures c.if-b-j.false).valid
 
 pub draw-d-requires : goal.draw-d-requires
-draw-d-requires c = let f = found c.args.b c.args.e c.args.words.now _ _ c.requires c.period_of.ensures c.place-j.ensures c.if-b-j.false in (read_in_book f.valid _ f.used).sound
+draw-d-requires c = let f = found c.requires c.period_of.ensures c.place-j.ensures c.if-b-j.false in (read_in_book f.valid _ f.used).sound
 
 pub offset_bounds-b-j-then-is_settle : goal.offset_bounds-b-j-then-is_settle
-offset_bounds-b-j-then-is_settle c = let f = found c.args.b c.args.e c.args.words.now _ _ c.requires c.period_of.ensures c.place-j.ensures c.if-b-j.false in omega (arith, count_few f.valid, f.used)
+offset_bounds-b-j-then-is_settle c = let f = found c.requires c.period_of.ensures c.place-j.ensures c.if-b-j.false in omega (arith, count_few f.valid, f.used)
 
 pub bounds-b-j-then-is_settle : goal.bounds-b-j-then-is_settle
-bounds-b-j-then-is_settle c = let f = found c.args.b c.args.e c.args.words.now _ _ c.requires c.period_of.ensures c.place-j.ensures c.if-b-j.false in omega (arith, count_few f.valid, f.used)
+bounds-b-j-then-is_settle c = let f = found c.requires c.period_of.ensures c.place-j.ensures c.if-b-j.false in omega (arith, count_few f.valid, f.used)
 
 pub offset_bounds-b-j-2 : goal.offset_bounds-b-j-2
-offset_bounds-b-j-2 c = let f = found c.args.b c.args.e c.args.words.now _ _ c.requires c.period_of.ensures c.place-j.ensures c.if-b-j.false in omega (arith, count_few f.valid, f.used)
+offset_bounds-b-j-2 c = let f = found c.requires c.period_of.ensures c.place-j.ensures c.if-b-j.false in omega (arith, count_few f.valid, f.used)
 
 pub bounds-b-j-2 : goal.bounds-b-j-2
-bounds-b-j-2 c = let f = found c.args.b c.args.e c.args.words.now _ _ c.requires c.period_of.ensures c.place-j.ensures c.if-b-j.false in omega (arith, count_few f.valid, f.used)
+bounds-b-j-2 c = let f = found c.requires c.period_of.ensures c.place-j.ensures c.if-b-j.false in omega (arith, count_few f.valid, f.used)
 
 pub apply_to_period-r-requires : goal.apply_to_period-r-requires
 apply_to_period-r-requires c =
-    let f = found c.args.b c.args.e c.args.words.now _ _ c.requires c.period_of.ensures c.place-j.ensures c.if-b-j.false in
+    let f = found c.requires c.period_of.ensures c.place-j.ensures c.if-b-j.false in
     let d : Drawn c.args.b c.args.e c.place-j.result c.if-is_settle.b = elim c.if-is_settle.branch [
       | then-is_settle w ↦ w.b-is ∙ drawn_settle f (sym c.is_settle.ensures ∙ w.if-is_settle.true) _ w.drawable_purses.ensures _ _ w.draw-d.ensures.0 w.draw-d.ensures.1
       | else-is_settle w ↦ w.b-is ∙ drawn_other f (sym c.is_settle.ensures ∙ w.if-is_settle.false)
@@ -81,7 +78,7 @@ apply_to_period-r-requires c =
 
 pub is_leaving-requires : goal.is_leaving-requires
 is_leaving-requires c =
-    let f = found c.args.b c.args.e c.args.words.now _ _ c.requires c.period_of.ensures c.place-j.ensures c.if-b-j.false in
+    let f = found c.requires c.period_of.ensures c.place-j.ensures c.if-b-j.false in
     let d : Drawn c.args.b c.args.e c.place-j.result c.if-is_settle.b = elim c.if-is_settle.branch [
       | then-is_settle w ↦ w.b-is ∙ drawn_settle f (sym c.is_settle.ensures ∙ w.if-is_settle.true) _ w.drawable_purses.ensures _ _ w.draw-d.ensures.0 w.draw-d.ensures.1
       | else-is_settle w ↦ w.b-is ∙ drawn_other f (sym c.is_settle.ensures ∙ w.if-is_settle.false)
@@ -92,7 +89,7 @@ is_leaving-requires c =
 
 pub without_period-next-requires : goal.without_period-next-requires
 without_period-next-requires c =
-    let f = found c.args.b c.args.e c.args.words.now _ _ c.requires c.period_of.ensures c.place-j.ensures c.if-b-j.false in
+    let f = found c.requires c.period_of.ensures c.place-j.ensures c.if-b-j.false in
     let d : Drawn c.args.b c.args.e c.place-j.result c.if-is_settle.b = elim c.if-is_settle.branch [
       | then-is_settle w ↦ w.b-is ∙ drawn_settle f (sym c.is_settle.ensures ∙ w.if-is_settle.true) _ w.drawable_purses.ensures _ _ w.draw-d.ensures.0 w.draw-d.ensures.1
       | else-is_settle w ↦ w.b-is ∙ drawn_other f (sym c.is_settle.ensures ∙ w.if-is_settle.false)
@@ -104,7 +101,7 @@ without_period-next-requires c =
 
 pub returns-then-is_leaving : goal.returns-then-is_leaving
 returns-then-is_leaving c =
-    let f = found c.args.b c.args.e c.args.words.now _ _ c.requires c.period_of.ensures c.place-j.ensures c.if-b-j.false in
+    let f = found c.requires c.period_of.ensures c.place-j.ensures c.if-b-j.false in
     let d : Drawn c.args.b c.args.e c.place-j.result c.if-is_settle.b = elim c.if-is_settle.branch [
       | then-is_settle w ↦ w.b-is ∙ drawn_settle f (sym c.is_settle.ensures ∙ w.if-is_settle.true) _ w.drawable_purses.ensures _ _ w.draw-d.ensures.0 w.draw-d.ensures.1
       | else-is_settle w ↦ w.b-is ∙ drawn_other f (sym c.is_settle.ensures ∙ w.if-is_settle.false)
@@ -117,14 +114,14 @@ returns-then-is_leaving c =
     ∙ reply_leaves f _ k (rw d at leaving)
 
 pub offset_bounds-b-j-3 : goal.offset_bounds-b-j-3
-offset_bounds-b-j-3 c = let f = found c.args.b c.args.e c.args.words.now _ _ c.requires c.period_of.ensures c.place-j.ensures c.if-b-j.false in omega (arith, count_few f.valid, f.used)
+offset_bounds-b-j-3 c = let f = found c.requires c.period_of.ensures c.place-j.ensures c.if-b-j.false in omega (arith, count_few f.valid, f.used)
 
 pub bounds-b-j-3 : goal.bounds-b-j-3
-bounds-b-j-3 c = let f = found c.args.b c.args.e c.args.words.now _ _ c.requires c.period_of.ensures c.place-j.ensures c.if-b-j.false in omega (arith, count_few f.valid, f.used)
+bounds-b-j-3 c = let f = found c.requires c.period_of.ensures c.place-j.ensures c.if-b-j.false in omega (arith, count_few f.valid, f.used)
 
 pub returns : goal.returns
 returns c =
-    let f = found c.args.b c.args.e c.args.words.now _ _ c.requires c.period_of.ensures c.place-j.ensures c.if-b-j.false in
+    let f = found c.requires c.period_of.ensures c.place-j.ensures c.if-b-j.false in
     let d : Drawn c.args.b c.args.e c.place-j.result c.if-is_settle.b = elim c.if-is_settle.branch [
       | then-is_settle w ↦ w.b-is ∙ drawn_settle f (sym c.is_settle.ensures ∙ w.if-is_settle.true) _ w.drawable_purses.ensures _ _ w.draw-d.ensures.0 w.draw-d.ensures.1
       | else-is_settle w ↦ w.b-is ∙ drawn_other f (sym c.is_settle.ensures ∙ w.if-is_settle.false)

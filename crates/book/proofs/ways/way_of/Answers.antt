@@ -64,7 +64,7 @@ named c =
       not_open = sym o.is_open.ensures ∙ u.if-is_open.false;
       not_purse = sym u.is_purse.ensures ∙ p.if-is_purse.false;
       at_place = omega (arith, q, c.if-b-j.false);
-      used = c.if-b-j.false;
+      used = omega (arith, c.if-b-j.false);
     }
 
 pub returns-then-b-eq0 : goal.returns-then-b-eq0
