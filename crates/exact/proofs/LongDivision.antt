@@ -1,7 +1,7 @@
 -- Long division, a digit k at a time, over any base B: from h × a by d to (h × B + k) × a by d.
 use mathlib.Core.Path.{◌≡◌, sym, ap, ◌∙◌}
 use Prim.Native.Nat.{ℕ, ◌+◌, ◌*◌, ◌/◌, ◌%◌, ◌≤◌, ◌<◌}
-use native.Mathlib.Nat.{add-mul, mul_comm, mul_right_comm, mul-le-mul, mul-le-mul_left, le_of_lt, div-add-mod', div-lt_iff_lt-mul, div-le_of_le-mul, mul-add-div_right, mul-add-mod_self_right}
+use native.Mathlib.Nat.{add-mul, mul_comm, mul_right_comm, mul-le-mul, mul-le-mul_left, le_of_lt, div-add-mod', div-le_of_le-mul, mul-add-div_right, mul-add-mod_self_right}
 use native.Mathlib.Omega.{arith}
 
 -- a product of which one factor is at most d, at a digit below B
@@ -11,9 +11,6 @@ digit_le h l = mul-le-mul (le_of_lt l) h
 -- its quotient by d is at most the other factor
 pub quotient_le : {a d : ℕ} (k : ℕ) → a ≤ d → k * a / d ≤ k
 quotient_le {a} {d} k h = div-le_of_le-mul d (omega (arith, mul-le-mul_left k h, mul_comm d k))
-
-pub quotient_lt : (n d y : ℕ) → 0 < d → n < y * d → n / d < y
-quotient_lt n d y some h = (div-lt_iff_lt-mul {k = d} {x = n} {y = y} some).1 h
 
 module _ (a h k d B : ℕ) where
   spread : (h * B + k) * a ≡ h * a / d * B * d + (h * a % d * B + k * a)
