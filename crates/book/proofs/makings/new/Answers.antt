@@ -16,10 +16,9 @@ passed c = rw c.making_answer-answer.ensures at (sym c.is_accepted.ensures ∙ c
 pub returns-then-not-is_accepted : goal.returns-then-not-is_accepted
 unfolding made
 returns-then-not-is_accepted c =
-    let t = c.before.before.before in
-    let failed : eqb (refusal (making_checks t.args.m)) 0 ≡ false =
-    rw t.making_answer-answer.ensures at (sym t.is_accepted.ensures ∙ c.if-not-is_accepted.true) in
-    (t.making_answer-answer.ensures, c.empty_book-b.ensures ∙ rw (c.no_making.ensures, failed))
+    let failed : eqb (refusal (making_checks c.args.m)) 0 ≡ false =
+    rw c.making_answer-answer.ensures at (sym c.is_accepted.ensures ∙ c.if-not-is_accepted.true) in
+    (c.making_answer-answer.ensures, c.empty_book-b.ensures ∙ rw (c.no_making.ensures, failed))
 
 pub kept-requires : goal.kept-requires
 kept-requires c =

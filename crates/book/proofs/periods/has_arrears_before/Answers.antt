@@ -5,7 +5,7 @@ use Rattle.book.proofs.periods.has_arrears_before.Goals as goal
 
 pub returns-then-is_settled : goal.returns-then-is_settled
 unfolding arrears_before
-returns-then-is_settled c = let b = c.before.before in simp (lt-ltb _ _ b.if-p-number.true, sym b.is_settled.ensures ∙ c.if-is_settled.true)
+returns-then-is_settled c = simp (lt-ltb _ _ c.if-p-number.true, sym c.is_settled.ensures ∙ c.if-is_settled.true)
 
 pub returns-else-is_settled : goal.returns-else-is_settled
 unfolding arrears_before

@@ -4,8 +4,7 @@ use Rattle.book.proofs.periods.is_leaving.Goals as goal
 
 pub total-requires : goal.total-requires
 total-requires c =
-    let s = c.before.before.before in
-    (s.requires.0, s.requires.1 (sym c.is_settled.ensures ∙ c.if-is_settled.true))
+    (c.requires.0, c.requires.1 (sym c.is_settled.ensures ∙ c.if-is_settled.true))
 
 pub returns-then-is_settled : goal.returns-then-is_settled
 unfolding leaves

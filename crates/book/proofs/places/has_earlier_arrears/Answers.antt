@@ -14,18 +14,15 @@ bounds-b-k c = omega arith
 
 pub returns-then-has_arrears_before : goal.returns-then-has_arrears_before
 returns-then-has_arrears_before c =
-    let l = c.before.before.before.before in
-    sym (l.loop-k.invariant.1 ∙ earlier_more l.requires.0 l.loop-k.k l.args.i l.args.number (omega arith) ∙ rw (sym c.has_arrears_before.ensures ∙ c.if-has_arrears_before.true))
+    sym (c.loop-k.invariant.1 ∙ earlier_more c.requires.0 c.loop-k.k c.args.i c.args.number (omega arith) ∙ rw (sym c.has_arrears_before.ensures ∙ c.if-has_arrears_before.true))
 
 pub loop-k-smaller : goal.loop-k-smaller
 loop-k-smaller c = omega arith
 
 pub loop-k-preserved : goal.loop-k-preserved
 loop-k-preserved c =
-    let l = c.before.before.before.before in
-    (omega arith, l.loop-k.invariant.1 ∙ earlier_more l.requires.0 l.loop-k.k l.args.i l.args.number (omega arith) ∙ rw (sym c.has_arrears_before.ensures ∙ c.if-has_arrears_before.false))
+    (omega arith, c.loop-k.invariant.1 ∙ earlier_more c.requires.0 c.loop-k.k c.args.i c.args.number (omega arith) ∙ rw (sym c.has_arrears_before.ensures ∙ c.if-has_arrears_before.false))
 
 pub returns : goal.returns
 returns c =
-    let l = c.before in
-    sym (l.loop-k.invariant.1 ∙ earlier_end l.requires.0 l.loop-k.k l.args.i l.args.number (omega arith))
+    sym (c.loop-k.invariant.1 ∙ earlier_end c.requires.0 c.loop-k.k c.args.i c.args.number (omega arith))

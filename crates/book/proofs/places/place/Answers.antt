@@ -12,17 +12,15 @@ pub bounds-b-k : goal.bounds-b-k
 bounds-b-k c = omega arith
 
 pub returns-then-p-number : goal.returns-then-p-number
-returns-then-p-number c = let l = c.before.before.before.before in omega (arith, find_here l.requires l.loop-k.k l.args.number c.if-p-number.true, l.loop-k.invariant.1)
+returns-then-p-number c = omega (arith, find_here c.requires c.loop-k.k c.args.number c.if-p-number.true, c.loop-k.invariant.1)
 
 pub loop-k-smaller : goal.loop-k-smaller
 loop-k-smaller c = omega arith
 
 pub loop-k-preserved : goal.loop-k-preserved
 loop-k-preserved c =
-    let l = c.before.before.before.before in
-    (omega arith, omega (arith, find_past l.requires l.loop-k.k l.args.number c.if-p-number.false, l.loop-k.invariant.1))
+    (omega arith, omega (arith, find_past c.requires c.loop-k.k c.args.number c.if-p-number.false, c.loop-k.invariant.1))
 
 pub returns : goal.returns
 returns c =
-    let l = c.before in
-    omega (arith, l.loop-k.invariant.1, count_few l.requires, find_nowhere l.requires l.loop-k.k l.args.number (omega arith))
+    omega (arith, c.loop-k.invariant.1, count_few c.requires, find_nowhere c.requires c.loop-k.k c.args.number (omega arith))

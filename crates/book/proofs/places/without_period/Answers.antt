@@ -41,5 +41,4 @@ bounds-ps-last c = omega (arith, count_few c.requires.0, count_is c.requires.0, 
 pub returns : goal.returns
 returns c =
     let l = c.loop-k in
-    let s = c.before.before.before.before.before.before.before.before in
-    rw (c.fresh_period-blank.ensures, sym (slide_end l.ps l.k _ c.loop-k-test.false) ∙ l.invariant.2) (dropped s.requires.0 _ _ (omega (arith, count_is s.requires.0, s.requires.1)) s.requires.2)
+    rw (c.fresh_period-blank.ensures, sym (slide_end l.ps l.k _ c.loop-k-test.false) ∙ l.invariant.2) (dropped c.requires.0 _ _ (omega (arith, count_is c.requires.0, c.requires.1)) c.requires.2)

@@ -10,15 +10,13 @@ use Rattle.book.proofs.purses.drawable_purses.Goals as goal
 
 pub total-requires : goal.total-requires
 total-requires c =
-    let s = c.before in
-    (many_places s.requires.fit, omega (arith, purses_bound (view s.args.b) s.requires.fit, many_places s.requires.fit))
+    (many_places c.requires.fit, omega (arith, purses_bound (view c.args.b) c.requires.fit, many_places c.requires.fit))
 
 pub returns-then-total-eq0 : goal.returns-then-total-eq0
 returns-then-total-eq0 c =
-    let s = c.before.before.before in
     λ i h.
-    let none : at s.args.b.purses i ≡ 0 = omega (arith, c.total.ensures, c.if-total-eq0.true, sum_term (at s.args.b.purses) s.args.b.n i h) in
-    rw none (cases (λ z. 0 ≡ z) (earlier_arrears i s.args.number (view s.args.b).periods) (λ _. refl) (λ _. refl))
+    let none : at c.args.b.purses i ≡ 0 = omega (arith, c.total.ensures, c.if-total-eq0.true, sum_term (at c.args.b.purses) c.args.b.n i h) in
+    rw none (cases (λ z. 0 ≡ z) (earlier_arrears i c.args.number (view c.args.b).periods) (λ _. refl) (λ _. refl))
 
 pub returns : goal.returns
 returns c = c.unbarred_purses.ensures

@@ -29,18 +29,16 @@ loop-k-smaller c = omega arith
 
 pub loop-k-preserved : goal.loop-k-preserved
 loop-k-preserved c =
-    let l = c.loop-k in
-    let s = c.before.before.before.before.before in (
+    let l = c.loop-k in (
       omega arith,
       λ i h.
-          ap (λ z. cond (earlier_arrears i s.args.number (drop (l.k + 1) (view s.args.b).periods)) 0 z) (ap (λ (r : List ℕ). at r i) c.unbarred-left.ensures ∙ cells_at _ _ i h)
-          ∙ barred_either (arrears_before i s.args.number (get_or s.args.b.periods l.k no_period)) (earlier_arrears i s.args.number (drop (l.k + 1) (view s.args.b).periods)) (at l.purses i)
-          ∙ ap (λ (t : Bool). cond t 0 (at l.purses i)) (sym (earlier_more s.requires l.k i s.args.number (omega arith)))
+          ap (λ z. cond (earlier_arrears i c.args.number (drop (l.k + 1) (view c.args.b).periods)) 0 z) (ap (λ (r : List ℕ). at r i) c.unbarred-left.ensures ∙ cells_at _ _ i h)
+          ∙ barred_either (arrears_before i c.args.number (get_or c.args.b.periods l.k no_period)) (earlier_arrears i c.args.number (drop (l.k + 1) (view c.args.b).periods)) (at l.purses i)
+          ∙ ap (λ (t : Bool). cond t 0 (at l.purses i)) (sym (earlier_more c.requires l.k i c.args.number (omega arith)))
           ∙ l.invariant.1 i h,
     )
 
 pub returns : goal.returns
 returns c =
     let l = c.loop-k in
-    let s = c.before.before.before in
-    λ i h. sym (ap (λ (t : Bool). cond t 0 (at l.purses i)) (earlier_end s.requires l.k i s.args.number (omega arith))) ∙ l.invariant.1 i h
+    λ i h. sym (ap (λ (t : Bool). cond t 0 (at l.purses i)) (earlier_end c.requires l.k i c.args.number (omega arith))) ∙ l.invariant.1 i h

@@ -10,17 +10,12 @@ returns-then-not-is_opened c = simp (lt-leb _ _ c.if-n-i.false, sym c.is_opened.
 
 pub returns-then-misdated : goal.returns-then-misdated
 returns-then-misdated c =
-    let b = c.before in
-    simp (lt-leb _ _ b.if-n-i.false, sym b.is_opened.ensures ∙ b.if-not-is_opened.false, c.if-misdated.true)
+    simp (lt-leb _ _ c.if-n-i.false, sym c.is_opened.ensures ∙ c.if-not-is_opened.false, c.if-misdated.true)
 
 pub returns-then-total-cents-gt-SIDE_LIMIT : goal.returns-then-total-cents-gt-SIDE_LIMIT
 returns-then-total-cents-gt-SIDE_LIMIT c =
-    let m = c.before in
-    let b = m.before in
-    simp (lt-leb _ _ b.if-n-i.false, sym b.is_opened.ensures ∙ b.if-not-is_opened.false, m.if-misdated.false, lt-ltb _ _ c.if-total-cents-gt-SIDE_LIMIT.true)
+    simp (lt-leb _ _ c.if-n-i.false, sym c.is_opened.ensures ∙ c.if-not-is_opened.false, c.if-misdated.false, lt-ltb _ _ c.if-total-cents-gt-SIDE_LIMIT.true)
 
 pub returns : goal.returns
 returns c =
-    let m = c.before in
-    let b = m.before in
-    simp (lt-leb _ _ b.if-n-i.false, sym b.is_opened.ensures ∙ b.if-not-is_opened.false, m.if-misdated.false, le-ltb _ _ c.if-total-cents-gt-SIDE_LIMIT.false)
+    simp (lt-leb _ _ c.if-n-i.false, sym c.is_opened.ensures ∙ c.if-not-is_opened.false, c.if-misdated.false, le-ltb _ _ c.if-total-cents-gt-SIDE_LIMIT.false)

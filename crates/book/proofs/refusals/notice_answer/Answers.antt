@@ -5,18 +5,16 @@ use Rattle.book.proofs.refusals.notice_answer.Goals as goal
 
 pub returns-then-p : goal.returns-then-p
 returns-then-p c =
-    let b = c.before.before.before in
-    let s = b.requires in
+    let s = c.requires in
     simp (
-      sym b.is_opened.ensures ∙ b.if-not-is_opened.false,
+      sym c.is_opened.ensures ∙ c.if-not-is_opened.false,
       ne_eqb _ _ (rw (s.kept 0 (omega arith), s.kept 1 (omega arith)) at c.if-p.true),
     )
 
 pub returns : goal.returns
 returns c =
-    let b = c.before.before.before in
-    let s = b.requires in
+    let s = c.requires in
     simp (
-      sym b.is_opened.ensures ∙ b.if-not-is_opened.false,
+      sym c.is_opened.ensures ∙ c.if-not-is_opened.false,
       eq-eqb _ _ (rw (s.kept 0 (omega arith), s.kept 1 (omega arith)) at c.if-p.false),
     )

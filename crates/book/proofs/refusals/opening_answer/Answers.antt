@@ -11,12 +11,10 @@ returns-then-k-b c = rw (le-leb _ _ c.if-k-b.true)
 
 pub returns-then-b : goal.returns-then-b
 returns-then-b c =
-    let s = c.before.before.before.before in
-    let full : s.args.b.limits.periods ≤ length (view s.args.b).periods = omega (arith, count_is s.requires, c.if-b.true) in
+    let full : c.args.b.limits.periods ≤ length (view c.args.b).periods = omega (arith, count_is c.requires, c.if-b.true) in
     rw (lt-leb _ _ c.if-k-b.false, le-leb _ _ full)
 
 pub returns : goal.returns
 returns c =
-    let s = c.before.before.before.before in
-    let room : length (view s.args.b).periods < s.args.b.limits.periods = omega (arith, count_is s.requires, c.if-b.false) in
+    let room : length (view c.args.b).periods < c.args.b.limits.periods = omega (arith, count_is c.requires, c.if-b.false) in
     rw (lt-leb _ _ c.if-k-b.false, lt-leb _ _ room)

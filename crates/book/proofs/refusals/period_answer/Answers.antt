@@ -34,11 +34,10 @@ amount_answer-requires c =
 pub returns-then-is_amount : goal.returns-then-is_amount
 returns-then-is_amount c =
     let a = c.before.before.before in
-    let s = a.before.before.before in
-    let e = s.args.e in
-    c.amount_answer.ensures ∙ kept_answer _ _ s.requires.0 c.is_misdated.result _ (within a)
-    ∙ ap₂ (λ t (d : Addition). refusal (amount_checks s.args.n s.args.p t d)) c.is_misdated.ensures a.addition_of-a.ensures
-    ∙ sym (ap refusal (amount_checks_lem e (sym a.is_amount.ensures ∙ a.if-is_amount.true) s.args.n s.args.barred s.args.p))
+    let e = a.args.e in
+    c.amount_answer.ensures ∙ kept_answer _ _ a.requires.0 c.is_misdated.result _ (within a)
+    ∙ ap₂ (λ t (d : Addition). refusal (amount_checks a.args.n a.args.p t d)) c.is_misdated.ensures a.addition_of-a.ensures
+    ∙ sym (ap refusal (amount_checks_lem e (sym a.is_amount.ensures ∙ a.if-is_amount.true) a.args.n a.args.barred a.args.p))
 
 pub receipt_answer-requires : goal.receipt_answer-requires
 receipt_answer-requires c =

@@ -10,25 +10,22 @@ returns-then-is_opened c = simp (lt-leb _ _ c.if-n-i.false, sym c.is_opened.ensu
 
 pub returns-then-barred : goal.returns-then-barred
 returns-then-barred c =
-    let b = c.before in
-    simp (lt-leb _ _ b.if-n-i.false, sym b.is_opened.ensures ∙ b.if-is_opened.false, c.if-barred.true)
+    simp (lt-leb _ _ c.if-n-i.false, sym c.is_opened.ensures ∙ c.if-is_opened.false, c.if-barred.true)
 
 pub returns-then-receivable_from-cents : goal.returns-then-receivable_from-cents
 returns-then-receivable_from-cents c =
-    let b = c.before.before.before in
     simp (
-      lt-leb _ _ b.if-n-i.false,
-      sym b.is_opened.ensures ∙ b.if-is_opened.false,
+      lt-leb _ _ c.if-n-i.false,
+      sym c.is_opened.ensures ∙ c.if-is_opened.false,
       c.if-barred.false,
       lt-ltb _ _ (rw c.receivable_from.ensures at c.if-receivable_from-cents.true),
     )
 
 pub returns : goal.returns
 returns c =
-    let b = c.before.before.before in
     simp (
-      lt-leb _ _ b.if-n-i.false,
-      sym b.is_opened.ensures ∙ b.if-is_opened.false,
+      lt-leb _ _ c.if-n-i.false,
+      sym c.is_opened.ensures ∙ c.if-is_opened.false,
       c.if-barred.false,
       le-ltb _ _ (rw c.receivable_from.ensures at c.if-receivable_from-cents.false),
     )

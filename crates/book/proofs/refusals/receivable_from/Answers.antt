@@ -9,5 +9,4 @@ returns-then-is_settled c = simp (sym c.is_settled.ensures ∙ c.if-is_settled.t
 pub returns : goal.returns
 unfolding receivable
 returns c =
-    let b = c.before.before.before in
-    c.excess.ensures ∙ simp (sym b.is_settled.ensures ∙ b.if-is_settled.false)
+    c.excess.ensures ∙ simp (sym c.is_settled.ensures ∙ c.if-is_settled.false)

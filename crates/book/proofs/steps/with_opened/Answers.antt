@@ -10,11 +10,9 @@ use Rattle.book.proofs.steps.with_opened.Goals as goal
 pub with_period-requires : goal.with_period-requires
 unfolding held_in
 with_period-requires c =
-    let s = c.before.before.before.before.before.before in
-    (s.requires.0, omega (arith, s.requires.2, s.requires.0.fit.limited.periods), rw c.fresh_period-p.ensures (omega (arith, fresh_holds s.args.b.n s.args.k)))
+    (c.requires.0, omega (arith, c.requires.2, c.requires.0.fit.limited.periods), rw c.fresh_period-p.ensures (omega (arith, fresh_holds c.args.b.n c.args.k)))
 
 pub returns : goal.returns
 unfolding zeros payout_words
 returns c =
-    let s = c.before.before.before.before.before.before.before in
-    (c.with_period.ensures ∙ ap (λ (p : Period). pack (added (view s.args.b) p)) c.fresh_period-p.ensures, c.put_cells.ensures)
+    (c.with_period.ensures ∙ ap (λ (p : Period). pack (added (view c.args.b) p)) c.fresh_period-p.ensures, c.put_cells.ensures)

@@ -19,7 +19,5 @@ shape_of-out c = simp length-set at (c.put-2.auto.out ∙ c.put.auto.out)
 pub returns : goal.returns
 unfolding bytes_of
 returns c =
-    let p2 = c.before.before in
-    let p1 = p2.before.before.before.before in
-    let a = p1.args in
-    p2.put-2.ensures ∙ rw p1.put.ensures (sym (put_fields (layout 7) (a.participant ∷ a.cents ∷ []) _ 1))
+    let a = c.args in
+    c.put-2.ensures ∙ rw c.put.ensures (sym (put_fields (layout 7) (a.participant ∷ a.cents ∷ []) _ 1))

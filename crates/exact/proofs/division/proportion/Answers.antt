@@ -30,8 +30,7 @@ next_digit-middle-requires c =
 
 pub next_digit-requires : goal.next_digit-requires
 next_digit-requires c =
-    let s = c.before in
-    omega (arith, middle c, quotient_le (upper s.args.amount) s.requires.within, mod-lt (upper s.args.amount * s.args.part) s.requires.some)
+    omega (arith, middle c, quotient_le (upper c.args.amount) c.requires.within, mod-lt (upper c.args.amount * c.args.part) c.requires.some)
 
 pub returns : goal.returns
 returns c =

@@ -8,15 +8,12 @@ use Rattle.exact.proofs.division.proportion_up.Goals as goal
 
 pub overflow_add-result : goal.overflow_add-result
 overflow_add-result c =
-    let s = c.before.before.before in
-    omega (arith, c.proportion-p.ensures, quotient_le s.args.amount s.requires.within)
+    omega (arith, c.proportion-p.ensures, quotient_le c.args.amount c.requires.within)
 
 pub returns-then-rest-eq0 : goal.returns-then-rest-eq0
 returns-then-rest-eq0 c =
-    let s = c.before.before in
-    c.proportion-p.ensures.0 ∙ ceil_even (s.args.amount * s.args.part) s.args.whole s.requires.some (omega arith)
+    c.proportion-p.ensures.0 ∙ ceil_even (c.args.amount * c.args.part) c.args.whole c.requires.some (omega arith)
 
 pub returns-else-rest-eq0 : goal.returns-else-rest-eq0
 returns-else-rest-eq0 c =
-    let s = c.before.before.before in
-    ap (λ (q : ℕ). q + 1) c.proportion-p.ensures.0 ∙ ceil_more (s.args.amount * s.args.part) s.args.whole s.requires.some (omega arith)
+    ap (λ (q : ℕ). q + 1) c.proportion-p.ensures.0 ∙ ceil_more (c.args.amount * c.args.part) c.args.whole c.requires.some (omega arith)

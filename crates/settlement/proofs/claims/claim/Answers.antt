@@ -20,10 +20,9 @@ over_tiers-owing-requires c =
 
 pub sums-owing_and_payable-requires : goal.sums-owing_and_payable-requires
 sums-owing_and_payable-requires c =
-    let s = c.before in
-    let m = month s.args.n s.args.by s.args.to in (
-      s.requires.0.few,
-      λ i h. omega (arith, (holds (owing_to m) _ c.over_tiers-owing.ensures).reads i h, (holds _ _ s.requires.1.row).reads i h, to_bound m s.requires.0 i h, by_bound m s.requires.0 i h, payable_le m s.requires.1.retained s.requires.1.sound i),
+    let m = month c.args.n c.args.by c.args.to in (
+      c.requires.0.few,
+      λ i h. omega (arith, (holds (owing_to m) _ c.over_tiers-owing.ensures).reads i h, (holds _ _ c.requires.1.row).reads i h, to_bound m c.requires.0 i h, by_bound m c.requires.0 i h, payable_le m c.requires.1.retained c.requires.1.sound i),
     )
 
 pub excesses-full-requires : goal.excesses-full-requires
@@ -45,12 +44,11 @@ pub returns : goal.returns
 unfolding full_claim unpaid arrears claim
 returns c d =
     let kept = d.retained in
-    let a = c.before.before.before.before.before.before in
-    let x = a.args in
+    let x = c.args in
     let n = x.n in
     let m = month n x.by x.to in
     let r = at x.received in
-    let owing = a.over_tiers-owing.ensures in
+    let owing = c.over_tiers-owing.ensures in
     let covered = c.sums-owing_and_payable.ensures ∙ cells_both ◌+◌ (holds (owing_to m) n owing) (holds (payable m kept) n d.row) in
     let full : c.excesses-full.result ≡ cells (full_claim m kept) n =
     c.excesses-full.ensures ∙ cells_both ◌-◌ (holds _ n covered) (holds_own x.by n) in

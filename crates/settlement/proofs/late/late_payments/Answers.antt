@@ -10,9 +10,8 @@ use Rattle.settlement.proofs.late.late_payments.Goals as goal
 
 pub meet_tiers-requires : goal.meet_tiers-requires
 meet_tiers-requires c =
-    let s = c.before in
-    let x = s.args in
-    (s.requires.0, rw c.shortages-wanted.ensures (le_trans (sum_mono _ _ x.n (λ i h. over_tiers_mono _ (tier_at x.to) i (λ t k. rw (tier_cells_at _ x.n t i k h) (shortage_le _ _ _ t i)))) s.requires.1))
+    let x = c.args in
+    (c.requires.0, rw c.shortages-wanted.ensures (le_trans (sum_mono _ _ x.n (λ i h. over_tiers_mono _ (tier_at x.to) i (λ t k. rw (tier_cells_at _ x.n t i k h) (shortage_le _ _ _ t i)))) c.requires.1))
 
 pub returns : goal.returns
 unfolding late_payment

@@ -26,9 +26,8 @@ loop-k-init c = (search rules, filled_none _ _)
 pub tiers_before-before-requires : goal.tiers_before-before-requires
 unfolding over_tiers
 tiers_before-before-requires c =
-    let s = c.before.before.before in
     let i = c.loop-k.k / tiers in
-    (omega arith, omega arith, omega (arith, s.requires, sum_term (over_tiers (tier_at s.args.to)) s.args.n i (omega arith)))
+    (omega arith, omega arith, omega (arith, c.requires, sum_term (over_tiers (tier_at c.args.to)) c.args.n i (omega arith)))
 
 pub loop-k-preserved : goal.loop-k-preserved
 loop-k-preserved c =

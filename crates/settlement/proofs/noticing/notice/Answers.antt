@@ -19,8 +19,7 @@ parts c = holds _ _ c.tier-parts.ensures
 
 parts_bound : (c : After-tier-parts) → let x = c.args in sum (at c.tier-parts.result) x.n ≤ side_limit
 parts_bound c =
-    let s = c.before.before.before in
-    omega (arith, sum_holds (parts c), s.requires.0.to_total, tier_total_le (month s.args.n s.args.by s.args.to).to last_tier s.args.n (omega arith))
+    omega (arith, sum_holds (parts c), c.requires.0.to_total, tier_total_le (month c.args.n c.args.by c.args.to).to last_tier c.args.n (omega arith))
 
 by_sums : (c : After-group_sums-by_sums) → let x = c.args in
     Holds c.group_sums-by_sums.result (group_sum (at x.grouping.groups) x.n (at x.by)) group_count
@@ -29,9 +28,8 @@ by_sums c = holds _ group_count c.group_sums-by_sums.ensures
 to_sums : (c : After-group_sums-to_sums) → let x = c.args in
     Holds c.group_sums-to_sums.result (group_sum (at x.grouping.groups) x.n (owing_to (month x.n x.by x.to))) group_count
 to_sums c =
-    let t = c.before.before.before.before.before.before in
-    let x = t.args in
-    let owing = holds (owing_to (month x.n x.by x.to)) x.n t.over_tiers-owing.ensures in
+    let x = c.args in
+    let owing = holds (owing_to (month x.n x.by x.to)) x.n c.over_tiers-owing.ensures in
     holds _ group_count (c.group_sums-to_sums.ensures ∙ cells_cong _ _ group_count (λ k _. group_cong x.n k (λ _ _. refl) owing.reads))
 
 short : (c : After-shortfalls-short) → let x = c.args in
@@ -69,28 +67,25 @@ pub tier-parts-requires : goal.tier-parts-requires
 tier-parts-requires c = (c.requires.0.few, omega arith)
 
 pub group_sums-by_sums-requires : goal.group_sums-by_sums-requires
-group_sums-by_sums-requires c = let s = c.before.before.before.before.before in (s.requires.0.few, omega (arith, s.requires.0.by_total), group_within _ _ s.requires.1)
+group_sums-by_sums-requires c = (c.requires.0.few, omega (arith, c.requires.0.by_total), group_within _ _ c.requires.1)
 
 pub group_sums-to_sums-requires : goal.group_sums-to_sums-requires
-group_sums-to_sums-requires c = let t = c.before.before.before.before.before in
-    let s = t.before in
-    (s.requires.0.few, omega (arith, s.requires.0.to_total, sum_holds (holds _ _ t.over_tiers-owing.ensures)), group_within _ _ s.requires.1)
+group_sums-to_sums-requires c =
+    (c.requires.0.few, omega (arith, c.requires.0.to_total, sum_holds (holds _ _ c.over_tiers-owing.ensures)), group_within _ _ c.requires.1)
 
 pub shortfalls-short-requires : goal.shortfalls-short-requires
 shortfalls-short-requires c =
-    let s = c.before.before.before.before.before.before.before in
     λ k h. omega (
       arith,
       (by_sums c.before).reads k h,
-      group_outside (at s.args.grouping.groups) (at s.args.by) k s.args.n,
-      s.requires.0.by_total,
-      reserve_within _ _ s.requires.1 k h,
+      group_outside (at c.args.grouping.groups) (at c.args.by) k c.args.n,
+      c.requires.0.by_total,
+      reserve_within _ _ c.requires.1 k h,
     )
 
 pub outside_sums-outside-requires : goal.outside_sums-outside-requires
 outside_sums-outside-requires c = let t = c.before.before.before.before.before in
-    let s = t.before.before.before in
-    (s.requires.0.few, omega (arith, parts_bound t), group_within _ _ s.requires.1)
+    (t.requires.0.few, omega (arith, parts_bound t), group_within _ _ t.requires.1)
 
 pub largest_gifts-retention-requires : goal.largest_gifts-retention-requires
 unfolding outside_tier5
@@ -110,15 +105,14 @@ largest_gifts-retention-requires c =
 
 pub sums-by_and_retention-requires : goal.sums-by_and_retention-requires
 sums-by_and_retention-requires c =
-    let s = c.before.before.before.before.before.before.before.before.before.before in
-    let m = month s.args.n s.args.by s.args.to in (
-      s.requires.0.few,
+    let m = month c.args.n c.args.by c.args.to in (
+      c.requires.0.few,
       λ i h. omega (
         arith,
         (holds _ _ (kept c)).reads i h,
-        by_bound m s.requires.0 i h,
-        to_bound m s.requires.0 i h,
-        (retention_sound m s.args.grouping).within i,
+        by_bound m c.requires.0 i h,
+        to_bound m c.requires.0 i h,
+        (retention_sound m c.args.grouping).within i,
         tier5_le m i,
       ),
     )
@@ -130,11 +124,10 @@ pub returns : goal.returns
 unfolding payable
 returns c =
     let g = c.before.before in
-    let a = g.before.before.before.before.before.before.before.before.before in
-    let x = a.args in
+    let x = g.args in
     let m = month x.n x.by x.to in
     let A = group_retention m x.grouping in
     let due = c.sums-by_and_retention.ensures ∙ cells_both ◌+◌ (holds_own x.by x.n) (holds A x.n (kept g)) in
     let net : c.excesses-payable.result ≡ cells (payable m A) x.n =
-    c.excesses-payable.ensures ∙ cells_both ◌-◌ (holds _ x.n due) (holds (owing_to m) x.n a.over_tiers-owing.ensures) in
+    c.excesses-payable.ensures ∙ cells_both ◌-◌ (holds _ x.n due) (holds (owing_to m) x.n g.over_tiers-owing.ensures) in
     λ z. record { retention = kept g z; payable = net z }

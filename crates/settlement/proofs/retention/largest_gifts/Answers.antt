@@ -10,8 +10,7 @@ loop-i-init c = (search rules, cells_none _)
 
 pub largest_gift-requires : goal.largest_gift-requires
 largest_gift-requires c =
-    let s = c.before.before in
-    (s.requires.2 c.loop-i.i (omega arith), s.requires.1)
+    (c.requires.2 c.loop-i.i (omega arith), c.requires.1)
 
 pub loop-i-preserved : goal.loop-i-preserved
 loop-i-preserved c =

@@ -67,8 +67,7 @@ total-requires-2 c =
 
 pub meet_tiers-revised-requires : goal.meet_tiers-revised-requires
 meet_tiers-revised-requires c =
-    let s = c.before.before.before.before.before.before.before in
-    (s.requires.0.few, s.requires.0.to_total)
+    (c.requires.0.few, c.requires.0.to_total)
 
 pub sums-claims_and_revised-requires : goal.sums-claims_and_revised-requires
 sums-claims_and_revised-requires c =

@@ -16,7 +16,6 @@ returns-then-remainder-least c =
 
 pub returns : goal.returns
 returns c =
-    let b = c.before.before in
-    let x = b.args in
-    let e = eq-eqb x.remainder (x.least - 1) (omega (arith, b.if-remainder-least.false, b.if-least-remainder.false)) in
-    (rw (lt-leb _ _ b.if-least-remainder.false, e) c.smaller.ensures, rw e c.excess.ensures)
+    let x = c.args in
+    let e = eq-eqb x.remainder (x.least - 1) (omega (arith, c.if-remainder-least.false, c.if-least-remainder.false)) in
+    (rw (lt-leb _ _ c.if-least-remainder.false, e) c.smaller.ensures, rw e c.excess.ensures)

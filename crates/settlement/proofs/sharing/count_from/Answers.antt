@@ -21,8 +21,7 @@ count_next c =
 
 pub overflow_add-count : goal.overflow_add-count
 overflow_add-count c =
-    let s = c.before.before.before.before in
-    omega (arith, count_next c, count_le (at s.args.remainders.now) (c.loop-i.i + 1) s.args.least, s.requires)
+    omega (arith, count_next c, count_le (at c.args.remainders.now) (c.loop-i.i + 1) c.args.least, c.requires)
 
 pub loop-i-preserved : goal.loop-i-preserved
 loop-i-preserved c = (search rules, count_next c)

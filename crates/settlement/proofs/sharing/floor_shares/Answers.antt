@@ -11,8 +11,7 @@ loop-i-init c = (search rules, cells_none _, cells_none _)
 
 pub proportion-q-requires : goal.proportion-q-requires
 proportion-q-requires c =
-    let s = c.before.before in
-    omega (arith, s.requires.2, sum_term (at s.args.weights) s.args.n c.loop-i.i (omega arith))
+    omega (arith, c.requires.2, sum_term (at c.args.weights) c.args.n c.loop-i.i (omega arith))
 
 pub loop-i-preserved : goal.loop-i-preserved
 unfolding floor_share remainder

@@ -27,26 +27,24 @@ overflow_sub-leftover c = omega (arith, c.total.ensures, floors_within c.before.
 
 pub returns-then-leftover-eq0 : goal.returns-then-leftover-eq0
 returns-then-leftover-eq0 c =
-    let f = c.before.before.before in
-    let x = f.args in
-    share_even (at x.weights) x.amount x.whole x.n _ _ f.floor_shares-d.ensures.0 f.floor_shares-d.ensures.1 (omega (arith, c.if-leftover-eq0.true, c.total.ensures))
+    let x = c.args in
+    share_even (at x.weights) x.amount x.whole x.n _ _ c.floor_shares-d.ensures.0 c.floor_shares-d.ensures.1 (omega (arith, c.if-leftover-eq0.true, c.total.ensures))
 
 pub cut-least-requires : goal.cut-least-requires
 cut-least-requires c =
-    let f = c.before.before.before.before.before in
-    let x = f.args in
-    let can = f.requires.2 in
+    let x = c.args in
+    let can = c.requires.2 in
     let w = at x.weights in (
-      f.requires.0,
+      c.requires.0,
       omega (
         arith,
         c.total.ensures,
-        leftover_given w x.amount x.whole x.n _ _ f.floor_shares-d.ensures.0 f.floor_shares-d.ensures.1,
+        leftover_given w x.amount x.whole x.n _ _ c.floor_shares-d.ensures.0 c.floor_shares-d.ensures.1,
         leftover_le w x.amount x.whole x.n can,
       ),
       can.some,
-      f.requires.1,
-      λ i h. omega (arith, (holds (remainder w x.amount x.whole) x.n f.floor_shares-d.ensures.1).reads i h, rest_lt w x.amount x.whole x.n can i),
+      c.requires.1,
+      λ i h. omega (arith, (holds (remainder w x.amount x.whole) x.n c.floor_shares-d.ensures.1).reads i h, rest_lt w x.amount x.whole x.n can i),
     )
 
 pub with_leftover-requires : goal.with_leftover-requires
@@ -56,8 +54,7 @@ with_leftover-requires c =
 
 pub returns : goal.returns
 returns c =
-    let f = c.before.before.before.before.before.before.before in
-    let x = f.args in
+    let x = c.args in
     let t = c.total in
     c.with_leftover.ensures
-    ∙ rw t.ensures (share_given (at x.weights) x.amount x.whole x.n _ _ f.floor_shares-d.ensures.0 f.floor_shares-d.ensures.1)
+    ∙ rw t.ensures (share_given (at x.weights) x.amount x.whole x.n _ _ c.floor_shares-d.ensures.0 c.floor_shares-d.ensures.1)

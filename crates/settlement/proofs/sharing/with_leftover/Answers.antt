@@ -17,19 +17,17 @@ loop-i-init c = (search rules, cells_none _, omega (arith, sum_none (equals (at 
 cent_next : (c : After-cent_for-g) → let x = c.args in
     c.cent_for-g.result.cent ≡ leftover_cent (at x.d.remainders) x.n x.leftover c.loop-i.i
 cent_next c =
-    let s = c.before.before.before.before.before.before.before in
     let l = c.loop-i in
-    let x = s.args in
+    let x = c.args in
     let rest = at x.d.remainders in
     let spare : l.spare ≡ x.leftover - count_from rest x.n x.least - sum (equals rest (x.least - 1)) l.i = omega (arith, l.invariant.2, c.count_from.ensures) in
-    rw spare at c.cent_for-g.ensures.0 ∙ sym (cut_cent rest x.n x.leftover x.least l.i s.requires.1 (omega arith))
+    rw spare at c.cent_for-g.ensures.0 ∙ sym (cut_cent rest x.n x.leftover x.least l.i c.requires.1 (omega arith))
 
 pub overflow_add-out : goal.overflow_add-out
 overflow_add-out c =
-    let s = c.before.before.before.before.before.before.before.before in
-    let x = s.args in
+    let x = c.args in
     let l = c.loop-i in
-    omega (arith, cent_next c.before, cent_is (at x.d.remainders) x.n x.leftover l.i, s.requires.2 l.i (omega arith))
+    omega (arith, cent_next c.before, cent_is (at x.d.remainders) x.n x.leftover l.i, c.requires.2 l.i (omega arith))
 
 pub loop-i-preserved : goal.loop-i-preserved
 loop-i-preserved c =

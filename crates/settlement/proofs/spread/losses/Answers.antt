@@ -11,14 +11,12 @@ loop-i-init c = (search rules, cells_none _)
 
 pub loss_of-requires : goal.loss_of-requires
 loss_of-requires c some =
-    let s = c.before.before in
-    rw s.requires.1 (loss_proportional _ _ _ _ s.requires.0 c.loop-i.i (omega arith) some)
+    rw c.requires.1 (loss_proportional _ _ _ _ c.requires.0 c.loop-i.i (omega arith) some)
 
 pub loop-i-preserved : goal.loop-i-preserved
 loop-i-preserved c =
     let l = c.loop-i in
-    let s = c.before.before.before in
-    let own = rw s.requires.1 at c.loss_of.ensures ∙ sym (loss_own s.args.n (at s.args.revised) (at s.args.balances) s.args.negative l.i) in
+    let own = rw c.requires.1 at c.loss_of.ensures ∙ sym (loss_own c.args.n (at c.args.revised) (at c.args.balances) c.args.negative l.i) in
     (search rules, rw (l.invariant.1, own) (cells_more _ l.i (omega arith)))
 
 pub returns : goal.returns

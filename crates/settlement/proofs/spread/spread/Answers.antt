@@ -46,13 +46,12 @@ pub total-negative-requires : goal.total-negative-requires
 total-negative-requires c = (c.requires.few, omega (arith, c.requires.deficit_bound))
 
 pub total_of_positive-positive-requires : goal.total_of_positive-positive-requires
-total_of_positive-positive-requires c = let s = c.before.before in (s.requires.few, omega (arith, s.requires.revised_total))
+total_of_positive-positive-requires c = (c.requires.few, omega (arith, c.requires.revised_total))
 
 pub loop-negative-init : goal.loop-negative-init
 loop-negative-init c =
-    let t = c.before in
-    let row = t.negatives_at_zero-balances.ensures in
-    (running_start _ _ _ _ _ (rw row (cells_again _ _)) (rw t.total-negative.ensures (backing_held row t.requires)), omega (arith, c.total_of_positive-positive.ensures))
+    let row = c.negatives_at_zero-balances.ensures in
+    (running_start _ _ _ _ _ (rw row (cells_again _ _)) (rw c.total-negative.ensures (backing_held row c.requires)), omega (arith, c.total_of_positive-positive.ensures))
 
 pub losses-lost-requires : goal.losses-lost-requires
 losses-lost-requires c = let i = c.loop-negative.invariant in (running_backing _ _ _ _ i.0, i.1)

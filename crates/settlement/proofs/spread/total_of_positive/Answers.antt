@@ -23,15 +23,14 @@ weight_next c =
 
 pub overflow_add-s : goal.overflow_add-s
 overflow_add-s c =
-    let s = c.before.before.before in
-    let v = at s.args.revised in
-    let w = weight v (at s.args.balances) in
+    let v = at c.args.revised in
+    let w = weight v (at c.args.balances) in
     omega (
       arith,
       weight_next c,
-      s.requires.1,
-      sum_part w (c.loop-i.i + 1) s.args.n (omega arith),
-      sum_mono w v s.args.n (λ i _. weight_le v (at s.args.balances) i),
+      c.requires.1,
+      sum_part w (c.loop-i.i + 1) c.args.n (omega arith),
+      sum_mono w v c.args.n (λ i _. weight_le v (at c.args.balances) i),
     )
 
 pub loop-i-preserved : goal.loop-i-preserved

@@ -22,8 +22,7 @@ row_total c = sum_cong _ _ _ (row_at c)
 
 row_bound : (c : After-tier-row) → sum (at c.tier-row.result) c.args.n ≤ side_limit
 row_bound c =
-    let s = c.before.before.before.before in
-    omega (arith, row_total c, s.requires, tier_total_le (tier_at s.args.wanted) c.loop-t.t s.args.n (omega arith))
+    omega (arith, row_total c, c.requires, tier_total_le (tier_at c.args.wanted) c.loop-t.t c.args.n (omega arith))
 
 -- what a participant has after a turn
 turn : (c : After-tier_share-shares) → let l = c.loop-t in let x = c.args in
@@ -45,8 +44,7 @@ tier_share-shares-requires c = (search rules, c.total-whole.ensures, omega (arit
 
 pub sums-next-requires : goal.sums-next-requires
 sums-next-requires c =
-    let s = c.before.before.before.before.before.before in
-    (search rules, λ i h. omega (arith, turn c i h, s.requires, met_part s.args.n (tier_at s.args.wanted) s.args.money (c.loop-t.t + 1) i (omega arith), sum_term (over_tiers (tier_at s.args.wanted)) s.args.n i h))
+    (search rules, λ i h. omega (arith, turn c i h, c.requires, met_part c.args.n (tier_at c.args.wanted) c.args.money (c.loop-t.t + 1) i (omega arith), sum_term (over_tiers (tier_at c.args.wanted)) c.args.n i h))
 
 pub loop-t-preserved : goal.loop-t-preserved
 loop-t-preserved c =

@@ -5,18 +5,15 @@ use Rattle.settlement.proofs.walk.tier_share.Goals as goal
 
 pub returns-then-whole-left : goal.returns-then-whole-left
 returns-then-whole-left c =
-    let s = c.before in
-    s.requires.3 ∙ cells_cong _ _ _ (λ i _. sym (share_met _ _ _ (rw s.requires.1 at c.if-whole-left.true) i))
+    c.requires.3 ∙ cells_cong _ _ _ (λ i _. sym (share_met _ _ _ (rw c.requires.1 at c.if-whole-left.true) i))
 
 pub returns-then-left-eq0 : goal.returns-then-left-eq0
 returns-then-left-eq0 c = cells_zero _ _ c.requires.0 (λ i h. share_nothing _ _ _ c.if-left-eq0.true i h)
 
 pub share_by_weight-requires : goal.share_by_weight-requires
 share_by_weight-requires c =
-    let s = c.before.before in
-    (s.requires.0, s.requires.2, rw s.requires.1 (unmet_shareable _ _ _ (rw s.requires.1 at c.if-whole-left.false)))
+    (c.requires.0, c.requires.2, rw c.requires.1 (unmet_shareable _ _ _ (rw c.requires.1 at c.if-whole-left.false)))
 
 pub returns : goal.returns
 returns c =
-    let s = c.before.before.before in
-    c.share_by_weight.ensures ∙ rw s.requires.1 (cells_cong _ _ _ (λ i _. sym (share_unmet _ _ _ (rw s.requires.1 at c.if-whole-left.false) i)))
+    c.share_by_weight.ensures ∙ rw c.requires.1 (cells_cong _ _ _ (λ i _. sym (share_unmet _ _ _ (rw c.requires.1 at c.if-whole-left.false) i)))
