@@ -10,6 +10,8 @@ use native.Mathlib.Numerals.{add-one}
 use lib.Dec.{eqb}
 use lib.ListN.{get_or, take, drop, set, length, length-set, length-append, length-drop, drop_of_length-le, length-replicate, get_or-append, get_or-eq_default, replicate, get_or-replicate}
 use lib.Seq.{take-suc, drop-cons, drop_at, set_at, get_or_at, set-get_or, get_or-set_same, get_or-set_other, ext_get_or}
+use Rattle.std.specs.List.{sum_by, fold}
+use Rattle.std.proofs.lemmas.List.Sums.{sum_by_more, fold_more}
 use Rattle.exact.proofs.Cases.{cases_eq, le_or_lt, eq_or_ne}
 use Rattle.exact.specs.Rows.{places, at, sum, largest, table, filled, cells}
 
@@ -196,7 +198,7 @@ module _ {A : Type 0} (f : ℕ → A) where
   filled_cong g n d h = ap (λ (l : List A). l ++ drop n d) (table_cong g n h)
 
 -- a list all of whose places are filled from another has the front of that one
-table_take : (s : List ℕ) (n : ℕ) → n ≤ length s → table (at s) n ≡ take n s
+pub table_take : (s : List ℕ) (n : ℕ) → n ≤ length s → table (at s) n ≡ take n s
 unfolding table
 table_take s zero h = refl
 table_take s (suc n) h = rw (table_take s n (omega arith)) (sym (take-suc s n 0 h))
@@ -204,6 +206,18 @@ table_take s (suc n) h = rw (table_take s n (omega arith)) (sym (take-suc s n 0 
 pub filled_take : (s d : List ℕ) (n : ℕ) → n ≤ length s → length d ≡ n → filled (at s) n d ≡ take n s
 unfolding filled
 filled_take s d n h e = rw (table_take s n h, drop_of_length-le d {i = n} (omega arith)) (append-nil (take n s))
+
+-- the sum of f, and the largest, over the front of a list, as a chain reckons them; d is any element
+module _ {X : Type 0} (f : X → ℕ) (s : List X) (d : X) where
+  pub sum_taken : (n : ℕ) → n ≤ length s → sum_by f (take n s) ≡ sum (λ i. f (get_or s i d)) n
+  unfolding sum
+  sum_taken zero h = refl
+  sum_taken (suc n) h = rw (← add-one n) (omega (arith, sum_by_more f s n d (omega arith), sum_taken n (omega arith)))
+
+  pub largest_taken : (n : ℕ) → n ≤ length s → fold (λ m x. max m (f x)) 0 (take n s) ≡ largest (λ i. f (get_or s i d)) n
+  unfolding largest
+  largest_taken zero h = refl
+  largest_taken (suc n) h = rw (← add-one n, fold_more (λ (m : ℕ) (x : X). max m (f x)) 0 s n d (omega arith), largest_taken n (omega arith))
 
 -- an array of zeros has 0 at every place, and past its end
 pub zero_at : (k i : ℕ) → at (replicate k 0) i ≡ 0

@@ -40,11 +40,13 @@ pub fn proportion_up(amount: u64, part: u64, whole: u64) -> u64
     requires { Proportional amount part whole }
     ensures { result ≡ ceil_div (amount * part) whole }
 {
-    let p = proportion(amount, part, whole);
-    let rest = p.remainder;
-    if rest == 0 {
-        p.quotient
+    let Quotient {
+        quotient,
+        remainder,
+    } = proportion(amount, part, whole);
+    if remainder == 0 {
+        quotient
     } else {
-        p.quotient + 1
+        quotient + 1
     }
 }

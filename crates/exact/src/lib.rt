@@ -1,5 +1,5 @@
 // Exact arithmetic in whole cents: every product is formed before it is divided, in 64-bit words.
-#![tactic(auto)]
+#![tactic(auto, unfolding(crate::specs::Rows::cells))]
 
 mod division;
 mod energy;
@@ -9,4 +9,4 @@ mod rows;
 pub use division::{Quotient, proportion, proportion_up};
 pub use energy::{Difference, energy_cents, energy_difference};
 pub use numbers::{excess, larger, smaller};
-pub use rows::{PLACES, Row, excesses, largest, minima, put_cells, sums, total};
+pub use rows::{PLACES, Row, cells, excesses, largest, minima, put_cells, sums, total};
