@@ -1,4 +1,5 @@
-// The smaller, the larger and the cut-off difference of two numbers, so that no loop needs a branch for them.
+// The smaller, the larger and the cut-off difference of two numbers. They stay beside the methods that they call, since they are
+// public.
 ghost use Rattle.std.specs.Prelude.{◌≡◌, ◌-◌, min, max};
 
 // The smaller of two numbers.

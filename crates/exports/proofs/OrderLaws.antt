@@ -1,13 +1,14 @@
 -- What arguments in order come to.
 use Prim.Native.Nat.{ℕ, ◌+◌, ◌*◌, ◌≤◌, ◌<◌, min}
 use mathlib.Core.Path.{◌≡◌, refl, sym, ap, ◌∙◌}
-use mathlib.Core.Bool.{Bool, true, false, cond, not}
+use mathlib.Core.Bool.{Bool, true, false, cond}
 use mathlib.Core.Logic.{⊎_elim}
 use mathlib.Core.List.{List, ◌∷◌}
 use native.Mathlib.Omega.{arith}
 use lib.ListN.{length}
 use lib.Dec.{leb, eqb}
-use borrow.Author.Tests.{leb-true, le-leb, lt-leb, eqb-true, eq-eqb, ne_eqb, not-false}
+use borrow.Author.Tests.{leb-true, le-leb, lt-leb, eqb-true, eq-eqb, ne_eqb}
+use Rattle.std.specs.Prelude.{Some, None}
 use Rattle.exact.specs.Rows.{places, at, sum}
 use Rattle.exact.proofs.Cases.{le_or_lt, eq_or_ne}
 use Rattle.settlement.specs.Month.{tiers, side_limit, Bounded}
@@ -68,11 +69,10 @@ pub received_fitting : (n : ℕ) (by to groups reserves received : List ℕ) (ro
 unfolding received_in_order
 received_fitting n by to groups reserves received room h = fitting n by to groups reserves _ (all_first _ _ h).0
 
--- the same where a test that asks for it is passed
-pub passed_fitting : {n : ℕ} {by to groups reserves : List ℕ} (received : List ℕ) (room : ℕ) {passed : Bool}
-    → passed ≡ received_in_order n by to groups reserves received room → not passed ≡ false
-    → Fitting (Sound n by to × GroupsSound n groups reserves) (min (length received) room)
-passed_fitting received room q h = received_fitting _ _ _ _ _ _ _ (sym q ∙ not-false _ h)
+-- what is handed on where a test is passed
+pub some_passed : {A : Type 0} {t : Bool} {x y : A} → Some x ≡ cond t (Some y) None → (t ≡ true) × (x ≡ y)
+some_passed {t = true} e = (refl, cc)
+some_passed {t = false} e = absurd cc
 
 pub late_fitting : (n : ℕ) (to claims paid : List ℕ) (money room : ℕ) → late_money_in_order n to claims paid money room ≡ true
     → Fitting (TiersSound n to) (min (length claims) (min (length paid) room))

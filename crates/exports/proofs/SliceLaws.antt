@@ -1,12 +1,15 @@
 -- Laws of slices' first cells.
-use Prim.Native.Nat.{ℕ, zero, suc, ◌+◌, ◌*◌, ◌≤◌, ◌<◌}
+use Prim.Native.Nat.{ℕ, zero, suc, ◌+◌, ◌*◌, ◌≤◌, ◌<◌, min}
 use mathlib.Core.Path.{◌≡◌, sym, ap, ◌∙◌}
 use mathlib.Core.List.{List}
 use native.Mathlib.Omega.{arith}
-use lib.ListN.{length}
+use native.Mathlib.Numerals.{add-one}
+use lib.ListN.{length, take}
+use Rattle.std.specs.List.{fold}
+use Rattle.std.proofs.lemmas.List.Sums.{fold_more}
 use lib.Seq.{get_or-take}
-use Rattle.exact.specs.Rows.{at, sum, filled}
-use Rattle.exact.proofs.RowLaws.{sum_none, sum_suc, sum_more, sum_cong, filled_take}
+use Rattle.exact.specs.Rows.{at, sum}
+use Rattle.exact.proofs.RowLaws.{sum_none, sum_suc, sum_more, sum_cong, Holds}
 use Rattle.settlement.specs.Month.{tiers, over_tiers, tier_at}
 use Rattle.exports.specs.Slices.{front}
 
@@ -16,11 +19,6 @@ front_at count s i h = get_or-take count s i 0 h
 
 pub front_sum : (count : ℕ) (s : List ℕ) (n : ℕ) → n ≤ count → sum (at (front count s)) n ≡ sum (at s) n
 front_sum count s n h = sum_cong _ _ n (λ i k. front_at count s i (omega arith))
-
--- an array whose cells were all filled from a slice has its first cells
-pub filled_front : (s d : List ℕ) (n : ℕ) → n ≤ length s → length d ≡ n → filled (at s) n d ≡ front n s
-unfolding front
-filled_front s d n h e = filled_take s d n h e
 
 sum_next : (f : ℕ → ℕ) (m k : ℕ) → sum f (m + (k + 1)) ≡ sum f (m + k) + f (m + k)
 sum_next f m k = rw (let e : m + (k + 1) ≡ m + k + 1 = omega arith in e) (sum_more f (m + k))
@@ -37,3 +35,15 @@ flat_sum a (suc n) =
     let z : m + 0 ≡ m = omega arith in
     let five : sum g 5 ≡ g 0 + g 1 + g 2 + g 3 + g 4 = omega (arith, sum_none g, sum_suc g 0, sum_suc g 1, sum_suc g 2, sum_suc g 3, sum_suc g 4) in
     rw e (omega (arith, flat_sum a n, sum_suc (over_tiers (tier_at a)) n, five, ap (sum f) z, sum_next f m 0, sum_next f m 1, sum_next f m 2, sum_next f m 3, sum_next f m 4))
+
+-- an array of a slice's first cells holds the row in it
+pub front_holds : {a : List ℕ} (count : ℕ) (s : List ℕ) (n : ℕ) → a ≡ front count s → Holds a (at (front count s)) n
+front_holds count s n e = record { reads = λ i _. ap (λ (l : List ℕ). at l i) e }
+
+-- a sum that is cut off at a limit cell by cell, below what a word holds
+pub cut_sum : (s : List ℕ) (word limit : ℕ) → limit ≤ word → (n : ℕ) → n ≤ length s
+    → fold (λ t x. min (min (t + x) word) limit) 0 (take n s) ≡ min (sum (at s) n) limit
+cut_sum s word limit l zero h = omega (arith, sum_none (at s))
+cut_sum s word limit l (suc n) h =
+    rw (← add-one n, fold_more (λ (t x : ℕ). min (min (t + x) word) limit) 0 s n 0 (omega arith), cut_sum s word limit l n (omega arith))
+    (omega (arith, sum_more (at s) n))

@@ -17,8 +17,8 @@ ghost use Rattle.exports.specs.Answers.{notice_of, scaled_of, settled_of, refuse
 
 use exact::proportion;
 use months::{late_of, notice_of, scaled_of, settled_of};
-use orders::{check_receipts, in_order, late_money_in_order, proportional};
-use slices::{put_row, shorter};
+use orders::{in_order, late_money_in_order, payable_of, proportional};
+use slices::put_row;
 
 // More rounds than any settlement runs: the answer to arguments that are not in order.
 const REFUSED: u64 = 65;
@@ -53,15 +53,13 @@ pub extern "C" fn clearing_notice(
     ensures retention_after { retention.new ≡ left result (notice_of n by.now to.now groups.now reserves.now).retention retention.old }
     ensures payable_after { payable.new ≡ left result (notice_of n by.now to.now groups.now reserves.now).payable payable.old }
 {
-    let room = shorter(retention.len(), payable.len());
+    let room = retention.len().min(payable.len());
     if !in_order(by, to, groups, reserves, n, room) {
         return false;
     }
     let noticed = notice_of(by, to, groups, reserves, n);
-    let retention_row = noticed.retention;
-    let payable_row = noticed.payable;
-    put_row(retention, retention_row);
-    put_row(payable, payable_row);
+    put_row(retention, noticed.retention);
+    put_row(payable, noticed.payable);
     true
 }
 
@@ -84,19 +82,14 @@ pub extern "C" fn clearing_scaled(
     ensures above_after { above.new ≡ left result (scaled_of n by.now to.now groups.now reserves.now received.now).above above.old }
     ensures below_after { below.new ≡ left result (scaled_of n by.now to.now groups.now reserves.now received.now).below below.old }
 {
-    let room = shorter(revised.len(), shorter(above.len(), below.len()));
-    let checked = check_receipts(by, to, groups, reserves, received, n, room);
-    if !checked.passed {
+    let room = revised.len().min(above.len().min(below.len()));
+    let Some(payable) = payable_of(by, to, groups, reserves, received, n, room) else {
         return false;
-    }
-    let payable = checked.payable;
+    };
     let scaled = scaled_of(by, to, payable, received, n);
-    let revised_row = scaled.revised;
-    let above_row = scaled.above;
-    let below_row = scaled.below;
-    put_row(revised, revised_row);
-    put_row(above, above_row);
-    put_row(below, below_row);
+    put_row(revised, scaled.revised);
+    put_row(above, scaled.above);
+    put_row(below, scaled.below);
     true
 }
 
@@ -119,19 +112,14 @@ pub extern "C" fn clearing_settle(
     ensures claims_after { claims.new ≡ left (leb result places) (settled_of n by.now to.now groups.now reserves.now received.now).claims claims.old }
     ensures arrears_after { arrears.new ≡ left (leb result places) (settled_of n by.now to.now groups.now reserves.now received.now).arrears arrears.old }
 {
-    let room = shorter(paid.len(), shorter(claims.len(), arrears.len()));
-    let checked = check_receipts(by, to, groups, reserves, received, n, room);
-    if !checked.passed {
+    let room = paid.len().min(claims.len().min(arrears.len()));
+    let Some(payable) = payable_of(by, to, groups, reserves, received, n, room) else {
         return REFUSED;
-    }
-    let payable = checked.payable;
+    };
     let settled = settled_of(by, to, payable, received, n);
-    let paid_row = settled.paid;
-    let claims_row = settled.claims;
-    let arrears_row = settled.arrears;
-    put_row(paid, paid_row);
-    put_row(claims, claims_row);
-    put_row(arrears, arrears_row);
+    put_row(paid, settled.paid);
+    put_row(claims, settled.claims);
+    put_row(arrears, settled.arrears);
     settled.rounds
 }
 
@@ -152,7 +140,6 @@ pub extern "C" fn clearing_late(
     if !late_money_in_order(to, claims, paid, money, n, pays.len()) {
         return false;
     }
-    let pays_row = late_of(to, claims, paid, money, n);
-    put_row(pays, pays_row);
+    put_row(pays, late_of(to, claims, paid, money, n));
     true
 }

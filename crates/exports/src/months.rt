@@ -9,19 +9,27 @@ ghost use Rattle.exports.specs.Slices.{front, row_of, tier_places, month_of};
 ghost use Rattle.exports.specs.Orders.{Sound, TiersSound, GroupsSound};
 ghost use Rattle.exports.specs.Answers.{notice_of};
 
-use crate::slices::{grouping_of, row_of, tier_cells_of};
+use crate::slices::{front, grouping_of};
 use exact::Row;
-use settlement::{Noticed, Scaled, Settled, late_payments, notice, scale, settle};
+use settlement::{MonthSums, Noticed, Scaled, Settled, late_payments};
+
+// The month's sums.
+fn month_of(by: &[u64], to: &[u64], n: usize) -> MonthSums
+    requires { Sound n by.now to.now }
+    ensures { result ≡ record { n = n; by = front places by.now; to = front tier_places to.now } }
+{
+    let by = front(by);
+    let to = front(to);
+    MonthSums { n, by, to }
+}
 
 // The notice of the month and the groups.
 pub fn notice_of(by: &[u64], to: &[u64], groups: &[u64], reserves: &[u64], n: usize) -> Noticed
     requires { Sound n by.now to.now × GroupsSound n groups.now reserves.now }
     ensures { result ≡ notice_of n by.now to.now groups.now reserves.now }
 {
-    let by_row = row_of(by);
-    let to_cells = tier_cells_of(to);
-    let grouping = grouping_of(groups, reserves);
-    notice(by_row, to_cells, grouping, n)
+    let month = month_of(by, to, n);
+    month.notice(grouping_of(groups, reserves))
 }
 
 // Steps 1 to 3 of the month's settlement, from what is payable.
@@ -29,10 +37,8 @@ pub fn scaled_of(by: &[u64], to: &[u64], payable: Row, received: &[u64], n: usiz
     requires { Sound n by.now to.now × (places ≤ length received.now) × Due (month_of n by.now to.now) payable }
     ensures { (due : Due (month_of n by.now to.now) payable) → result ≡ scaled_amounts (month_of n by.now to.now) due.retained (row_of received.now) }
 {
-    let by_row = row_of(by);
-    let to_cells = tier_cells_of(to);
-    let received_row = row_of(received);
-    scale(by_row, to_cells, payable, received_row, n)
+    let month = month_of(by, to, n);
+    month.scale(payable, front(received))
 }
 
 // The whole of it, from the same.
@@ -40,10 +46,8 @@ pub fn settled_of(by: &[u64], to: &[u64], payable: Row, received: &[u64], n: usi
     requires { Sound n by.now to.now × (places ≤ length received.now) × Due (month_of n by.now to.now) payable }
     ensures { (due : Due (month_of n by.now to.now) payable) → result ≡ settled (month_of n by.now to.now) due.retained (row_of received.now) }
 {
-    let by_row = row_of(by);
-    let to_cells = tier_cells_of(to);
-    let received_row = row_of(received);
-    settle(by_row, to_cells, payable, received_row, n)
+    let month = month_of(by, to, n);
+    month.settle(payable, front(received))
 }
 
 // What money that comes late pays.
@@ -51,8 +55,5 @@ pub fn late_of(to: &[u64], claims: &[u64], paid: &[u64], money: u64, n: usize) -
     requires { TiersSound n to.now × (places ≤ length claims.now) × (places ≤ length paid.now) }
     ensures { result ≡ cells (late_payment (tier_at (front tier_places to.now)) (row_of claims.now) (row_of paid.now) n money) n }
 {
-    let to_cells = tier_cells_of(to);
-    let claims_row = row_of(claims);
-    let paid_row = row_of(paid);
-    late_payments(to_cells, claims_row, paid_row, money, n)
+    late_payments(front(to), front(claims), front(paid), money, n)
 }

@@ -1,12 +1,13 @@
 // Whether arguments are in order.
-ghost use Rattle.std.specs.Prelude.{◌≡◌, true, false, ◌≤◌};
+ghost use Rattle.std.specs.Prelude.{◌≡◌, true, false, cond, leb, take, Some, None, ◌≤◌};
+ghost use Rattle.std.specs.List.{list_all, zip};
 ghost use Rattle.exact.specs.Division.{Proportional};
 ghost use Rattle.exact.specs.Rows.{places, at};
-ghost use Rattle.exports.specs.Orders.{each_at_most, owing_in_order, groups_in_order, in_order, received_in_order, late_money_in_order};
+ghost use Rattle.exports.specs.Orders.{owing_in_order, groups_in_order, in_order, received_in_order, late_money_in_order};
 ghost use Rattle.exports.specs.Answers.{notice_of};
 
 use crate::months::notice_of;
-use crate::slices::{grouping_of, row_of, shorter, side_total, tier_cells_of};
+use crate::slices::{front, grouping_of, side_total};
 use exact::{PLACES, Row, excesses, total};
 use settlement::{GROUPS, SIDE_LIMIT, TIERS, is_grouping_allowed, over_tiers};
 
@@ -14,16 +15,7 @@ use settlement::{GROUPS, SIDE_LIMIT, TIERS, is_grouping_allowed, over_tiers};
 pub fn owing_in_order(to: &[u64], n: usize, room: usize) -> bool
     ensures { result ≡ owing_in_order n to.now room }
 {
-    if room < PLACES {
-        return false;
-    }
-    if n < 1 {
-        return false;
-    }
-    if PLACES < n {
-        return false;
-    }
-    if to.len() < TIERS * PLACES {
+    if room < PLACES || n < 1 || PLACES < n || to.len() < TIERS * PLACES {
         return false;
     }
     side_total(to, TIERS * n) <= SIDE_LIMIT
@@ -34,14 +26,10 @@ pub fn groups_in_order(groups: &[u64], reserves: &[u64], n: usize) -> bool
     requires { n ≤ places }
     ensures { result ≡ groups_in_order n groups.now reserves.now }
 {
-    if groups.len() < PLACES {
+    if groups.len() < PLACES || reserves.len() < GROUPS {
         return false;
     }
-    if reserves.len() < GROUPS {
-        return false;
-    }
-    let grouping = grouping_of(groups, reserves);
-    is_grouping_allowed(grouping, n)
+    is_grouping_allowed(grouping_of(groups, reserves), n)
 }
 
 // Whether the month is in order: the cents owing to n participants, those owing by them, which must come to as much, and
@@ -56,13 +44,10 @@ pub fn in_order(
 ) -> bool
     ensures { result ≡ in_order n by.now to.now groups.now reserves.now room }
 {
-    if !owing_in_order(to, n, room) {
-        return false;
-    }
-    if by.len() < PLACES {
-        return false;
-    }
-    if side_total(by, n) != side_total(to, TIERS * n) {
+    if !owing_in_order(to, n, room)
+        || by.len() < PLACES
+        || side_total(by, n) != side_total(to, TIERS * n)
+    {
         return false;
     }
     groups_in_order(groups, reserves, n)
@@ -71,26 +56,14 @@ pub fn in_order(
 // Whether each of the first n cells is at most the other row's.
 pub fn each_at_most(a: Row, b: Row, n: usize) -> bool
     requires { n ≤ places }
-    ensures { result ≡ each_at_most (at a) (at b) n }
+    ensures { result ≡ list_all (λ p. leb p.0 p.1) (zip (take n a) (take n b)) }
 {
-    for i in 0..n {
-        if b[i] < a[i] {
-            return false;
-        }
-    }
-    true
+    a[..n].iter().zip(b[..n].iter()).all(|(x, y)| *x <= *y)
 }
 
-// Whether a settlement's arguments are in order, and the payable row of the month's notice where they are: the settlement
-// is handed that row, so that no notice is reckoned twice.
-#[derive(Clone, Copy)]
-pub struct Checked {
-    pub passed: bool,
-    pub payable: Row,
-}
-
-// Checks the sums of a month, the groups and what was received.
-pub fn check_receipts(
+// The payable row of the month's notice, where the sums of the month, the groups and what was received are in order: the
+// settlement is handed that row, so that no notice is reckoned twice.
+pub fn payable_of(
     by: &[u64],
     to: &[u64],
     groups: &[u64],
@@ -98,22 +71,18 @@ pub fn check_receipts(
     received: &[u64],
     n: usize,
     room: usize,
-) -> Checked
-    ensures passed { result.passed ≡ received_in_order n by.now to.now groups.now reserves.now received.now room }
-    ensures payable { result.passed ≡ true → result.payable ≡ (notice_of n by.now to.now groups.now reserves.now).payable }
+) -> Option<Row>
+    ensures { result ≡ cond (received_in_order n by.now to.now groups.now reserves.now received.now room) (Some (notice_of n by.now to.now groups.now reserves.now).payable) None }
 {
-    if !in_order(by, to, groups, reserves, n, shorter(received.len(), room)) {
-        let none = [0u64; PLACES];
-        return Checked {
-            passed: false,
-            payable: none,
-        };
+    if !in_order(by, to, groups, reserves, n, received.len().min(room)) {
+        return None;
     }
-    let noticed = notice_of(by, to, groups, reserves, n);
-    let payable = noticed.payable;
-    let received_row = row_of(received);
-    let passed = each_at_most(received_row, payable, n);
-    Checked { passed, payable }
+    let payable = notice_of(by, to, groups, reserves, n).payable;
+    if each_at_most(front(received), payable, n) {
+        Some(payable)
+    } else {
+        None
+    }
 }
 
 // Whether the claims, what was paid of them and the money that comes late are in order.
@@ -127,21 +96,16 @@ pub fn late_money_in_order(
 ) -> bool
     ensures { result ≡ late_money_in_order n to.now claims.now paid.now money room }
 {
-    if !owing_in_order(to, n, shorter(claims.len(), shorter(paid.len(), room))) {
+    if !owing_in_order(to, n, claims.len().min(paid.len().min(room))) {
         return false;
     }
-    let to_cells = tier_cells_of(to);
-    let owing = over_tiers(to_cells, n);
-    let claims_row = row_of(claims);
-    if !each_at_most(claims_row, owing, n) {
+    let owing = over_tiers(front(to), n);
+    let claims = front(claims);
+    let paid = front(paid);
+    if !each_at_most(claims, owing, n) || !each_at_most(paid, claims, n) {
         return false;
     }
-    let paid_row = row_of(paid);
-    if !each_at_most(paid_row, claims_row, n) {
-        return false;
-    }
-    let unpaid = excesses(claims_row, paid_row, n);
-    money <= total(unpaid, n)
+    money <= total(excesses(claims, paid, n), n)
 }
 
 // Amounts and divisors of an exact proportion are below this.
@@ -151,14 +115,5 @@ const FACTOR_LIMIT: u64 = 0x1000_0000_0000;
 pub fn proportional(amount: u64, part: u64, whole: u64) -> bool
     ensures { (result ≡ true → Proportional amount part whole) × (result ≡ false → Proportional amount part whole → ⊥) }
 {
-    if whole == 0 {
-        return false;
-    }
-    if whole < part {
-        return false;
-    }
-    if FACTOR_LIMIT <= whole {
-        return false;
-    }
-    amount < FACTOR_LIMIT
+    0 < whole && part <= whole && whole < FACTOR_LIMIT && amount < FACTOR_LIMIT
 }

@@ -3,7 +3,7 @@ ghost use Rattle.std.specs.Prelude.{◌≡◌, ℕ, ◌+◌, ◌-◌, ◌^◌, �
 ghost use Rattle.exact.specs.Rows.{places, at, sum, cells};
 ghost use Rattle.settlement.specs.Groups.{group_count, grouping_allowed, group_sum, outside_sum, shortfall_with_reserve};
 
-use exact::{Row, excesses, largest, total};
+use exact::{Row, cells, largest, total};
 
 // Group numbers are 0 to 63.
 pub const GROUPS: usize = 64;
@@ -26,12 +26,8 @@ pub fn is_grouping_allowed(grouping: Grouping, n: usize) -> bool
     requires { n ≤ places }
     ensures { result ≡ grouping_allowed n grouping }
 {
-    let groups = grouping.groups;
-    if largest(groups, n) < GROUPS as u64 {
-        let reserves = grouping.reserves;
-        return largest(reserves, GROUPS) <= RESERVE_LIMIT;
-    }
-    false
+    largest(grouping.groups, n) < GROUPS as u64
+        && largest(grouping.reserves, GROUPS) <= RESERVE_LIMIT
 }
 
 // The sum of a row over the members of each group, in one pass over the participants.
@@ -53,8 +49,8 @@ pub fn outside_sums(a: Row, groups: Row, n: usize) -> GroupRow
     ensures { result ≡ cells (outside_sum (at groups) n (at a)) group_count }
 {
     let inside = group_sums(a, groups, n);
-    let whole = [total(a, n); GROUPS];
-    excesses(whole, inside, GROUPS)
+    let whole = total(a, n);
+    cells(GROUPS, |k| whole - inside[k])
 }
 
 // s of a group, from the sums of what is owing by its members and to them, and its reserve.
@@ -70,9 +66,8 @@ pub fn shortfalls(by: GroupRow, to: GroupRow, reserves: GroupRow) -> GroupRow
     requires { (k : ℕ) → k < group_count → at by k - at to k + at reserves k < 2 ^ 64 }
     ensures { result ≡ cells (λ k. shortfall_with_reserve (at by k) (at to k) (at reserves k)) group_count }
 {
-    let mut out = [0u64; GROUPS];
-    for k in 0..GROUPS {
-        out[k] = shortfall_with_reserve(by[k], to[k], reserves[k]);
-    }
-    out
+    cells(
+        GROUPS,
+        |k| shortfall_with_reserve(by[k], to[k], reserves[k]),
+    )
 }

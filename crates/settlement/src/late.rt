@@ -6,16 +6,15 @@ ghost use Rattle.settlement.specs.Late.{shortage, late_payment};
 
 use crate::owing::{TIERS, TierCells, tiers_before};
 use crate::walk::meet_tiers;
-use exact::{PLACES, Row, excess, smaller};
+use exact::{Row, cells};
 
 // What is missing in tier t of a claim, of which some was paid, whose owner has `own` in this tier and `before` in those before it.
 fn missing(own: u64, before: u64, claim: u64, paid: u64) -> u64
     ensures { result ≡ min own (claim - before) - min own (paid - before) }
 {
-    excess(
-        smaller(own, excess(claim, before)),
-        smaller(own, excess(paid, before)),
-    )
+    let claimed = own.min(claim.saturating_sub(before));
+    let had = own.min(paid.saturating_sub(before));
+    claimed.saturating_sub(had)
 }
 
 // What is missing of each claim in each tier.
@@ -23,13 +22,11 @@ pub fn shortages(to: TierCells, claims: Row, paid: Row, n: usize) -> TierCells
     requires { (n ≤ places) × (sum (over_tiers (tier_at to)) n ≤ side_limit) }
     ensures { result ≡ tier_cells (shortage (tier_at to) (at claims) (at paid)) n }
 {
-    let mut out = [0u64; TIERS * PLACES];
-    for k in 0..TIERS * n {
+    cells(TIERS * n, |k| {
         let i = k / TIERS;
         let before = tiers_before(&to, i, k % TIERS);
-        out[k] = missing(to[k], before, claims[i], paid[i]);
-    }
-    out
+        missing(to[k], before, claims[i], paid[i])
+    })
 }
 
 // What each of n participants gets of the money: what is held of the period, the late receipt added.

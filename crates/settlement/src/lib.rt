@@ -1,9 +1,10 @@
 // One month in whole cents: retention and payable amounts at notice, settlement with its rounds, and late money.
-#![tactic(auto)]
+#![tactic(auto, unfolding(exact::specs::Rows::cells))]
 
 mod claims;
 mod groups;
 mod late;
+mod month;
 mod noticing;
 mod owing;
 mod retention;
@@ -15,7 +16,8 @@ mod walk;
 
 pub use groups::{GROUPS, Grouping, is_grouping_allowed};
 pub use late::late_payments;
-pub use noticing::{Noticed, notice};
+pub use month::MonthSums;
+pub use noticing::Noticed;
 pub use owing::{SIDE_LIMIT, TIERS, TierCells, over_tiers};
-pub use scaling::{Scaled, scale};
-pub use settling::{Settled, settle};
+pub use scaling::Scaled;
+pub use settling::Settled;

@@ -6,17 +6,14 @@ ghost use Rattle.settlement.specs.Notice.{gives};
 ghost use Rattle.settlement.specs.Groups.{group_count};
 
 use crate::groups::{GROUPS, GroupRow};
-use exact::{PLACES, Row, larger, proportion_up};
+use exact::{Row, cells, largest, proportion_up};
 
 // What a group, with the shortfall s and the tier 5 total g outside it, gives a participant whose tier 5 part is `part`.
 fn gift(s: u64, g: u64, part: u64) -> u64
     requires { (g < 2 ^ 44) × (part < 2 ^ 44) }
     ensures { result ≡ gives s g part }
 {
-    if g == 0 {
-        return 0;
-    }
-    if s == 0 {
+    if g == 0 || s == 0 {
         return 0;
     }
     if g <= s {
@@ -26,15 +23,12 @@ fn gift(s: u64, g: u64, part: u64) -> u64
 }
 
 // The largest that any group gives such a participant.
-fn largest_gift(shortfalls: GroupRow, outside: GroupRow, part: u64) -> u64
-    requires { (part < 2 ^ 44) × ((k : ℕ) → k < group_count → at outside k < 2 ^ 44) }
-    ensures { result ≡ largest (λ k. gives (at shortfalls k) (at outside k) part) group_count }
+fn largest_gift(shortfalls: &GroupRow, outside: &GroupRow, part: u64) -> u64
+    requires { (part < 2 ^ 44) × ((k : ℕ) → k < group_count → at outside.now k < 2 ^ 44) }
+    ensures { result ≡ largest (λ k. gives (at shortfalls.now k) (at outside.now k) part) group_count }
 {
-    let mut most = 0u64;
-    for k in 0..GROUPS {
-        most = larger(most, gift(shortfalls[k], outside[k], part));
-    }
-    most
+    let gifts = cells(GROUPS, |k| gift(shortfalls[k], outside[k], part));
+    largest(gifts, GROUPS)
 }
 
 // The largest gift to each participant: its retention, where `parts` is the row of tier 5.
@@ -42,9 +36,5 @@ pub fn largest_gifts(shortfalls: GroupRow, outside: GroupRow, parts: Row, n: usi
     requires { (n ≤ places) × ((k : ℕ) → k < group_count → at outside k < 2 ^ 44) × ((i : ℕ) → i < n → at parts i < 2 ^ 44) }
     ensures { result ≡ cells (λ i. largest (λ k. gives (at shortfalls k) (at outside k) (at parts i)) group_count) n }
 {
-    let mut out = [0u64; PLACES];
-    for i in 0..n {
-        out[i] = largest_gift(shortfalls, outside, parts[i]);
-    }
-    out
+    cells(n, |i| largest_gift(&shortfalls, &outside, parts[i]))
 }

@@ -6,27 +6,15 @@ ghost use Rattle.settlement.specs.Month.{side_limit};
 ghost use Rattle.settlement.specs.Sharing.{floor_share, remainder, leftover_cent, share_by_weight, Shareable};
 ghost use Rattle.settlement.specs.inner.Cuts.{count_from, CutBetween};
 
-use exact::{PLACES, Row, excess, proportion, smaller, total};
+use exact::{PLACES, Row, proportion, total};
+use std::cmp::Ordering;
 
-// Shares rounded down, with the remainders of their divisions.
+// Shares rounded down, with the remainders of their divisions: two rows and no row of pairs, since `total` and `count_from` each
+// take one of them.
 #[derive(Clone, Copy)]
 struct Divided {
     cents: Row,
     remainders: Row,
-}
-
-// Two remainders between which the cut is: above `low`, and not above `least`.
-#[derive(Clone, Copy)]
-struct Between {
-    low: u64,
-    least: u64,
-}
-
-// A participant's cent, 0 or 1, and the cents that are still spare for those just below the cut.
-#[derive(Clone, Copy)]
-struct Given {
-    cent: u64,
-    spare: u64,
 }
 
 // The shares of n participants rounded down, where `whole` is what their weights come to.
@@ -36,6 +24,7 @@ fn floor_shares(weights: Row, amount: u64, whole: u64, n: usize) -> Divided
 {
     let mut cents = [0u64; PLACES];
     let mut remainders = [0u64; PLACES];
+    // A loop and no two calls of `cells`, since one division gives a cell of each row.
     for i in 0..n {
         let q = proportion(weights[i], amount, whole);
         cents[i] = q.quotient;
@@ -44,40 +33,24 @@ fn floor_shares(weights: Row, amount: u64, whole: u64, n: usize) -> Divided
     Divided { cents, remainders }
 }
 
-// 1 where a remainder is at least so much, else 0.
-fn one_from(remainder: u64, least: u64) -> u64
-    ensures { result ≡ cond (leb least remainder) 1 0 }
-{
-    if least <= remainder { 1 } else { 0 }
-}
-
 // How many of n remainders are at least so much.
 fn count_from(remainders: &Row, least: u64, n: usize) -> u64
     requires { n ≤ places }
     ensures { result ≡ count_from (at remainders.now) n least }
 {
-    let mut count = 0u64;
-    for i in 0..n {
-        count += one_from(remainders[i], least);
-    }
-    count
+    remainders[..n].iter().filter(|r| least <= **r).count() as u64
 }
 
 // The cut is on one side of `middle`, from which on there are `count` remainders; where these are as many as the leftover cents, it
-// is at `middle`.
-fn narrowed(low: u64, least: u64, middle: u64, count: u64, leftover: u64) -> Between
+// is at `middle`. What is handed on is again a remainder that the cut is above and one that it is not above.
+fn narrowed(low: u64, least: u64, middle: u64, count: u64, leftover: u64) -> (u64, u64)
     requires { (low < middle) × (middle < least) }
-    ensures { ((remainders : ℕ → ℕ) (n : ℕ) → count ≡ count_from remainders n middle → CutBetween remainders n leftover low least → CutBetween remainders n leftover result.low result.least) × (result.least ≤ least) × (result.least - result.low < least - low) }
+    ensures { ((remainders : ℕ → ℕ) (n : ℕ) → count ≡ count_from remainders n middle → CutBetween remainders n leftover low least → CutBetween remainders n leftover result.0 result.1) × (result.1 ≤ least) × (result.1 - result.0 < least - low) }
 {
-    if leftover < count {
-        return Between { low: middle, least };
-    }
-    if count < leftover {
-        return Between { low, least: middle };
-    }
-    Between {
-        low: middle - 1,
-        least: middle,
+    match count.cmp(&leftover) {
+        Ordering::Greater => (middle, least),
+        Ordering::Less => (low, middle),
+        Ordering::Equal => (middle - 1, middle),
     }
 }
 
@@ -92,27 +65,23 @@ fn cut(remainders: &Row, leftover: u64, whole: u64, n: usize) -> u64
     while 1 < least - low {
         let middle = low + (least - low) / 2;
         let count = count_from(remainders, middle, n);
-        let next = narrowed(low, least, middle, count, leftover);
-        low = next.low;
-        least = next.least;
+        (low, least) = narrowed(low, least, middle, count, leftover);
     }
     least
 }
 
-// What one remainder gets at the cut: a cent from `least` on, and just below it a cent while some are spare.
-fn cent_for(remainder: u64, least: u64, spare: u64) -> Given
+// What one remainder gets at the cut, a cent from `least` on, and just below it a cent while some are spare; and the cents
+// that are still spare.
+fn cent_for(remainder: u64, least: u64, spare: u64) -> (u64, u64)
     requires { 0 < least }
-    ensures { (result.cent ≡ cond (leb least remainder) 1 (cond (eqb remainder (least - 1)) (min 1 spare) 0)) × (result.spare ≡ spare - cond (eqb remainder (least - 1)) 1 0) }
+    ensures { (result.0 ≡ cond (leb least remainder) 1 (cond (eqb remainder (least - 1)) (min 1 spare) 0)) × (result.1 ≡ spare - cond (eqb remainder (least - 1)) 1 0) }
 {
     if least <= remainder {
-        return Given { cent: 1, spare };
-    }
-    if remainder < least - 1 {
-        return Given { cent: 0, spare };
-    }
-    Given {
-        cent: smaller(1, spare),
-        spare: excess(spare, 1),
+        (1, spare)
+    } else if remainder < least - 1 {
+        (0, spare)
+    } else {
+        (spare.min(1), spare.saturating_sub(1))
     }
 }
 
@@ -121,14 +90,14 @@ fn with_leftover(d: Divided, leftover: u64, least: u64, n: usize) -> Row
     requires { (n ≤ places) × CutBetween (at d.remainders) n leftover (least - 1) least × ((i : ℕ) → i < n → at d.cents i ≤ side_limit) }
     ensures { result ≡ cells (λ i. at d.cents i + leftover_cent (at d.remainders) n leftover i) n }
 {
-    let cents = d.cents;
-    let remainders = d.remainders;
+    let Divided { cents, remainders } = d;
     let mut out = [0u64; PLACES];
     let mut spare = leftover - count_from(&remainders, least, n);
+    // A loop and no call of `cells`, since each cell needs the cents that those before it left spare.
     for i in 0..n {
-        let g = cent_for(remainders[i], least, spare);
-        out[i] = cents[i] + g.cent;
-        spare = g.spare;
+        let (cent, rest) = cent_for(remainders[i], least, spare);
+        out[i] = cents[i] + cent;
+        spare = rest;
     }
     out
 }
@@ -140,12 +109,10 @@ pub fn share_by_weight(weights: Row, amount: u64, whole: u64, n: usize) -> Row
     ensures { result ≡ cells (share_by_weight (at weights) amount whole n) n }
 {
     let d = floor_shares(weights, amount, whole, n);
-    let cents = d.cents;
-    let leftover = amount - total(cents, n);
+    let leftover = amount - total(d.cents, n);
     if leftover == 0 {
-        return cents;
+        return d.cents;
     }
-    let remainders = d.remainders;
-    let least = cut(&remainders, leftover, whole, n);
+    let least = cut(&d.remainders, leftover, whole, n);
     with_leftover(d, leftover, least, n)
 }

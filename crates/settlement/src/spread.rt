@@ -6,7 +6,7 @@ ghost use Rattle.exact.specs.Rows.{places, at, sum, cells};
 ghost use Rattle.exact.specs.Division.{ceil_div, Proportional};
 ghost use Rattle.settlement.specs.Rounds.{negatives_at_zero, weight, loss, spread, Backing};
 
-use exact::{PLACES, Row, excess, excesses, proportion_up, smaller, total};
+use exact::{Row, cells, excesses, proportion_up, total};
 
 // The balances that the rounds leave, and how many rounds ran.
 #[derive(Clone, Copy)]
@@ -15,30 +15,12 @@ pub struct Spent {
     pub balances: Row,
 }
 
-// (4)(a) for one participant: its balance is 0 where its scaled amount is negative.
-fn unless_negative(above: u64, below: u64) -> u64
-    ensures { result ≡ cond (eqb below 0) above 0 }
-{
-    if below == 0 { above } else { 0 }
-}
-
 // (4)(a): the balances are the scaled amounts with the negative ones set to 0.
 fn negatives_at_zero(above: Row, below: Row, n: usize) -> Row
     requires { n ≤ places }
     ensures { result ≡ cells (negatives_at_zero (at above) (at below)) n }
 {
-    let mut out = [0u64; PLACES];
-    for i in 0..n {
-        out[i] = unless_negative(above[i], below[i]);
-    }
-    out
-}
-
-// V of a participant whose balance is positive, else 0.
-fn weight_of(balance: u64, revised: u64) -> u64
-    ensures { result ≡ cond (eqb balance 0) 0 revised }
-{
-    if balance == 0 { 0 } else { revised }
+    cells(n, |i| if below[i] == 0 { above[i] } else { 0 })
 }
 
 // AO positive: the sum of V over those whose balance is positive.
@@ -46,11 +28,8 @@ fn total_of_positive(balances: Row, revised: Row, n: usize) -> u64
     requires { (n ≤ places) × (sum (at revised) n < 2 ^ 64) }
     ensures { result ≡ sum (weight (at revised) (at balances)) n }
 {
-    let mut s = 0u64;
-    for i in 0..n {
-        s += weight_of(balances[i], revised[i]);
-    }
-    s
+    let weights = cells(n, |i| if balances[i] == 0 { 0 } else { revised[i] });
+    total(weights, n)
 }
 
 // (4)(b) for one participant: a positive balance loses AP negative × V / AO positive, by 01 rounded up and at most the balance.
@@ -59,9 +38,10 @@ fn loss_of(balance: u64, negative: u64, revised: u64, positive: u64) -> u64
     ensures { result ≡ min balance (ceil_div (negative * revised) positive) }
 {
     if balance == 0 {
-        return 0;
+        0
+    } else {
+        balance.min(proportion_up(negative, revised, positive))
     }
-    smaller(balance, proportion_up(negative, revised, positive))
 }
 
 // (4)(b): what each balance loses.
@@ -69,11 +49,7 @@ fn losses(balances: Row, negative: u64, revised: Row, positive: u64, n: usize) -
     requires { Backing n (at revised) (at balances) negative × (positive ≡ sum (weight (at revised) (at balances)) n) }
     ensures { result ≡ cells (loss n (at revised) (at balances) negative) n }
 {
-    let mut out = [0u64; PLACES];
-    for i in 0..n {
-        out[i] = loss_of(balances[i], negative, revised[i], positive);
-    }
-    out
+    cells(n, |i| loss_of(balances[i], negative, revised[i], positive))
 }
 
 // Applies the clause to scaled amounts in two rows: `above` where they are positive, `below`, with the sign turned, where they are
@@ -102,7 +78,7 @@ pub fn spread(above: Row, below: Row, revised: Row, n: usize) -> Spent
         let lost = losses(balances, negative, revised, positive, n);
         let left = excesses(balances, lost, n);
         // (5): (4) again, from what is left. No balance is below 0, as (a) has it; AP negative falls by all that was lost.
-        negative = excess(negative, total(lost, n));
+        negative = negative.saturating_sub(total(lost, n));
         positive = total_of_positive(left, revised, n);
         balances = left;
         count += 1;

@@ -6,7 +6,7 @@ ghost use Rattle.settlement.specs.Tiers.{share, met};
 
 use crate::owing::{TIERS, TierCells, tier};
 use crate::sharing::share_by_weight;
-use exact::{PLACES, Row, excess, sums, total};
+use exact::{PLACES, Row, sums, total};
 
 // What a tier gives each of n participants of the money left, where `whole` is its total: all that it wants where it can be met,
 // else shares by what it wants.
@@ -15,13 +15,13 @@ fn tier_share(wanted: Row, left: u64, whole: u64, n: usize) -> Row
     ensures { result ≡ cells (share n (at wanted) left) n }
 {
     if whole <= left {
-        return wanted;
+        wanted
+    } else if left == 0 {
+        // Nothing is left: every share is 0, and no division is needed to find that.
+        [0u64; PLACES]
+    } else {
+        share_by_weight(wanted, left, whole, n)
     }
-    // Nothing is left: every share is 0, and no division is needed to find that.
-    if left == 0 {
-        return [0u64; PLACES];
-    }
-    share_by_weight(wanted, left, whole, n)
 }
 
 // What each of n participants gets of the money over all tiers, where tier t wants what `wanted` has there.
@@ -35,9 +35,10 @@ pub fn meet_tiers(wanted: TierCells, money: u64, n: usize) -> Row
         let row = tier(&wanted, t, n);
         let whole = total(row, n);
         let shares = tier_share(row, left, whole, n);
+        // By `next`, since the proof covers no call whose result is put straight into an array that lives on.
         let next = sums(out, shares, n);
         out = next;
-        left = excess(left, whole);
+        left = left.saturating_sub(whole);
     }
     out
 }

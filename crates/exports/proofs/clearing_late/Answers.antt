@@ -9,8 +9,8 @@ unfolding left
 returns-then-not-late_money_in_order c = record { answer = sym c.if-not-late_money_in_order.true ∙ c.late_money_in_order.ensures; pays_after = refl }
 
 -- the arguments are in order where the test is passed
-pub late_of-pays_row-requires : goal.late_of-pays_row-requires
-late_of-pays_row-requires c =
+pub late_of-requires : goal.late_of-requires
+late_of-requires c =
     let k = late_fitting _ _ _ _ _ _ (sym c.late_money_in_order.ensures ∙ c.if-not-late_money_in_order.false) in
     (k.sound, omega (arith, k.roomy), omega (arith, k.roomy))
 
@@ -23,5 +23,5 @@ pub returns : goal.returns
 unfolding left
 returns c = record {
   answer = sym c.if-not-late_money_in_order.false ∙ c.late_money_in_order.ensures;
-  pays_after = c.put_row.ensures ∙ rw c.late_of-pays_row.ensures refl;
+  pays_after = c.put_row.ensures ∙ rw c.late_of.ensures refl;
 }

@@ -1,46 +1,57 @@
 use mathlib.Core.Path.{◌≡◌, refl, sym, ◌∙◌}
 use native.Mathlib.Omega.{arith}
-use borrow.Author.Tests.{not-true, not-false}
 use Rattle.settlement.proofs.Laws.{notice_due}
 use Rattle.exports.specs.Slices.{left}
 use Rattle.exports.specs.Answers.{scaled_of}
-use Rattle.exports.proofs.OrderLaws.{passed_fitting}
+use Rattle.exports.proofs.OrderLaws.{some_passed, received_fitting}
 use Rattle.exports.proofs.clearing_scaled.Goals as goal
 
-pub returns-then-not-checked : goal.returns-then-not-checked
+pub returns-in_default-clause-revised_after : goal.returns-in_default-clause-revised_after
 unfolding left
-returns-then-not-checked c =
-    let checked = rw (c.shorter-room.ensures, c.shorter.ensures) at c.check_receipts-checked.ensures.passed in
-    record { answer = sym (not-true _ c.if-not-checked.true) ∙ checked; revised_after = refl; above_after = refl; below_after = refl }
+returns-in_default-clause-revised_after c = refl
 
--- the arguments are in order where the test is passed, and the payable row is the notice's
+pub returns-in_default-clause-above_after : goal.returns-in_default-clause-above_after
+unfolding left
+returns-in_default-clause-above_after c = refl
+
+pub returns-in_default-clause-below_after : goal.returns-in_default-clause-below_after
+unfolding left
+returns-in_default-clause-below_after c = refl
+
+-- the arguments are in order where there is a payable row, and it is the notice's
 pub scaled_of-scaled-requires : goal.scaled_of-scaled-requires
 scaled_of-scaled-requires c =
-    let passed = not-false _ c.if-not-checked.false in
-    let k = passed_fitting _ _ c.check_receipts-checked.ensures.passed c.if-not-checked.false in
-    (k.sound.0, omega (arith, k.roomy), rw (c.check_receipts-checked.ensures.payable passed) (notice_due _ _))
+    let passed = some_passed (sym c.in-Some.is ∙ c.payable_of.ensures) in
+    let k = received_fitting _ _ _ _ _ _ _ passed.0 in
+    (k.sound.0, omega (arith, k.roomy), rw passed.1 (notice_due _ _))
 
 pub put_row-requires : goal.put_row-requires
-put_row-requires c = omega (arith, (passed_fitting _ _ c.check_receipts-checked.ensures.passed c.if-not-checked.false).roomy, c.shorter-room.ensures, c.shorter.ensures)
+put_row-requires c =
+    let k = received_fitting _ _ _ _ _ _ _ (some_passed (sym c.in-Some.is ∙ c.payable_of.ensures)).0 in
+    omega (arith, k.roomy, c.min-room.ensures, c.min.ensures)
 
 pub put_row-requires-2 : goal.put_row-requires-2
-put_row-requires-2 c = omega (arith, (passed_fitting _ _ c.check_receipts-checked.ensures.passed c.if-not-checked.false).roomy, c.shorter-room.ensures, c.shorter.ensures)
+put_row-requires-2 c =
+    let k = received_fitting _ _ _ _ _ _ _ (some_passed (sym c.in-Some.is ∙ c.payable_of.ensures)).0 in
+    omega (arith, k.roomy, c.min-room.ensures, c.min.ensures)
 
 pub put_row-requires-3 : goal.put_row-requires-3
-put_row-requires-3 c = omega (arith, (passed_fitting _ _ c.check_receipts-checked.ensures.passed c.if-not-checked.false).roomy, c.shorter-room.ensures, c.shorter.ensures)
+put_row-requires-3 c =
+    let k = received_fitting _ _ _ _ _ _ _ (some_passed (sym c.in-Some.is ∙ c.payable_of.ensures)).0 in
+    omega (arith, k.roomy, c.min-room.ensures, c.min.ensures)
 
 -- so the answer is that of the notice's retention
 pub returns : goal.returns
 unfolding left
 returns c =
     let a = c.args in
-    let passed = not-false _ c.if-not-checked.false in
-    let checked = rw (c.shorter-room.ensures, c.shorter.ensures) at c.check_receipts-checked.ensures.passed in
+    let passed = some_passed (sym c.in-Some.is ∙ c.payable_of.ensures) in
+    let checked = rw (c.min-room.ensures, c.min.ensures) at passed.0 in
     let answer : c.scaled_of-scaled.result ≡ scaled_of a.n a.by.now a.to.now a.groups.now a.reserves.now a.received.now =
-    (rw (c.check_receipts-checked.ensures.payable passed) at c.scaled_of-scaled.ensures) (notice_due _ _)
+    (rw passed.1 at c.scaled_of-scaled.ensures) (notice_due _ _)
     in
     record {
-      answer = sym passed ∙ checked;
+      answer = sym checked;
       revised_after = c.put_row.ensures ∙ rw answer refl;
       above_after = c.put_row-2.ensures ∙ rw answer refl;
       below_after = c.put_row-3.ensures ∙ rw answer refl;

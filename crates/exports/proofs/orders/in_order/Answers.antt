@@ -1,20 +1,21 @@
 use mathlib.Core.Path.{◌≡◌, sym, ◌∙◌}
+use mathlib.Core.List.{List}
+use Prim.Native.Nat.{ℕ, ◌+◌, ◌*◌, min}
 use native.Mathlib.Omega.{arith}
 use lib.Dec.{eqb}
 use borrow.Author.Tests.{le-leb, lt-leb, eq-eqb, ne_eqb}
-use Rattle.exact.specs.Rows.{sum}
+use Rattle.exact.specs.Rows.{at, sum}
+use Rattle.settlement.specs.Month.{tiers, side_limit}
 use Rattle.exports.specs.Slices.{row_of, owing_of}
-use Rattle.exports.specs.Orders.{all_of, in_order}
+use Rattle.exports.specs.Orders.{TiersSound, all_of, in_order}
 use Rattle.exports.proofs.OrderLaws.{tiers_fitting, totals_tested, last_test}
 use Rattle.exports.proofs.orders.in_order.Goals as goal
+use Rattle.exports.proofs.orders.in_order.Goals.{then-not-owing_in_order-via-then-not-owing_in_order, then-not-owing_in_order-via-else-not-owing_in_order+then-by-lt-PLACES, then-not-owing_in_order-via-else-not-owing_in_order+else-by-lt-PLACES+then-side_total}
 
-pub returns-then-not-owing_in_order : goal.returns-then-not-owing_in_order
-unfolding all_of in_order
-returns-then-not-owing_in_order c = simp (sym c.owing_in_order.ensures ∙ c.if-not-owing_in_order.true)
-
-pub returns-then-by-lt-PLACES : goal.returns-then-by-lt-PLACES
-unfolding all_of in_order
-returns-then-by-lt-PLACES c = simp (sym c.owing_in_order.ensures ∙ c.if-not-owing_in_order.false, lt-leb _ _ c.if-by-lt-PLACES.true)
+-- the third test is of the two sides' totals
+totals : (n : ℕ) (by to : List ℕ) (by_total to_total : ℕ) → TiersSound n to → by_total ≡ min (sum (at by) n) (side_limit + 1)
+    → to_total ≡ min (sum (at to) (tiers * n)) (side_limit + 1) → eqb by_total to_total ≡ eqb (sum (row_of by) n) (sum (owing_of to) n)
+totals n by to by_total to_total s b t = rw (b, t) (totals_tested n by to s)
 
 pub side_total-requires : goal.side_total-requires
 side_total-requires c =
@@ -26,21 +27,22 @@ overflow_mul-n c =
     let known = tiers_fitting _ _ _ (sym c.owing_in_order.ensures ∙ c.if-not-owing_in_order.false) in
     omega (arith, known.sound.few)
 
-pub side_total-requires-2 : goal.side_total-requires-2
-side_total-requires-2 c =
+pub side_total-requires-else-by-lt-PLACES : goal.side_total-requires-else-by-lt-PLACES
+side_total-requires-else-by-lt-PLACES c =
     let known = tiers_fitting _ _ _ (sym c.owing_in_order.ensures ∙ c.if-not-owing_in_order.false) in
     omega (arith, known.sound.few, known.sound.long)
 
--- the third test is of the two sides' totals
-pub returns-then-side_total : goal.returns-then-side_total
+pub returns-then-not-owing_in_order : goal.returns-then-not-owing_in_order
 unfolding all_of in_order
-returns-then-side_total c =
-    let a = c.args in
-    let passed = sym c.owing_in_order.ensures ∙ c.if-not-owing_in_order.false in
-    let totals : eqb c.side_total.result c.side_total-2.result ≡ eqb (sum (row_of a.by.now) a.n) (sum (owing_of a.to.now) a.n) =
-    rw (c.side_total.ensures, c.side_total-2.ensures) (totals_tested _ _ _ (tiers_fitting _ _ _ passed).sound)
-    in
-    simp (passed, le-leb _ _ c.if-by-lt-PLACES.false, sym totals ∙ ne_eqb _ _ c.if-side_total.true)
+returns-then-not-owing_in_order c =
+    elim c.then-not-owing_in_order.branch [
+      | then-not-owing_in_order-via-then-not-owing_in_order w ↦ simp (sym c.owing_in_order.ensures ∙ w.if-not-owing_in_order.true)
+      | then-not-owing_in_order-via-else-not-owing_in_order+then-by-lt-PLACES w ↦ simp (sym c.owing_in_order.ensures ∙ w.if-not-owing_in_order.false, lt-leb _ _ w.if-by-lt-PLACES.true)
+      | then-not-owing_in_order-via-else-not-owing_in_order+else-by-lt-PLACES+then-side_total w ↦
+          let passed = sym c.owing_in_order.ensures ∙ w.if-not-owing_in_order.false in
+          let third = totals _ _ _ _ _ (tiers_fitting _ _ _ passed).sound w.side_total.ensures w.side_total-else-by-lt-PLACES.ensures in
+          simp (passed, le-leb _ _ w.if-by-lt-PLACES.false, sym third ∙ ne_eqb _ _ w.if-side_total.true)
+    ]
 
 pub groups_in_order-requires : goal.groups_in_order-requires
 groups_in_order-requires c = (tiers_fitting _ _ _ (sym c.owing_in_order.ensures ∙ c.if-not-owing_in_order.false)).sound.few
@@ -48,10 +50,7 @@ groups_in_order-requires c = (tiers_fitting _ _ _ (sym c.owing_in_order.ensures 
 pub returns : goal.returns
 unfolding all_of in_order
 returns c =
-    let a = c.args in
     let passed = sym c.owing_in_order.ensures ∙ c.if-not-owing_in_order.false in
-    let totals : eqb c.side_total.result c.side_total-2.result ≡ eqb (sum (row_of a.by.now) a.n) (sum (owing_of a.to.now) a.n) =
-    rw (c.side_total.ensures, c.side_total-2.ensures) (totals_tested _ _ _ (tiers_fitting _ _ _ passed).sound)
-    in
-    simp (passed, le-leb _ _ c.if-by-lt-PLACES.false, sym totals ∙ eq-eqb _ _ c.if-side_total.false)
+    let third = totals _ _ _ _ _ (tiers_fitting _ _ _ passed).sound c.side_total.ensures c.side_total-else-by-lt-PLACES.ensures in
+    simp (passed, le-leb _ _ c.if-by-lt-PLACES.false, sym third ∙ eq-eqb _ _ c.if-side_total.false)
     (c.groups_in_order.ensures ∙ last_test _)

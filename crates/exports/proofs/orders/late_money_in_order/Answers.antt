@@ -5,13 +5,15 @@ use mathlib.Core.List.{List}
 use native.Mathlib.Omega.{arith}
 use lib.ListN.{length}
 use Rattle.exact.specs.Rows.{at, sum, cells, places}
-use Rattle.exact.proofs.RowLaws.{sum_term, holds, sum_holds}
+use Rattle.exact.proofs.RowLaws.{sum_term, Holds, holds, sum_holds}
 use Rattle.settlement.specs.Month.{over_tiers, tier_at}
 use Rattle.exports.specs.Slices.{front, row_of, owing_of, tier_places}
-use Rattle.exports.specs.Orders.{all_of, each_at_most, owing_in_order, late_money_in_order}
-use Rattle.exports.proofs.EachLaws.{each_holds, each_excess}
+use Rattle.exports.specs.Orders.{all_of, owing_in_order, late_money_in_order}
+use Rattle.exports.proofs.EachLaws.{each_tested, each_excess}
 use Rattle.exports.proofs.OrderLaws.{tiers_fitting, last_test}
+use Rattle.exports.proofs.SliceLaws.{front_holds}
 use Rattle.exports.proofs.orders.late_money_in_order.Goals as goal
+use Rattle.exports.proofs.orders.late_money_in_order.Goals.{then-not-each_at_most-via-then-not-each_at_most, then-not-each_at_most-via-else-not-each_at_most+then-not-each_at_most-2}
 
 -- the first test is of the side owing to participants
 tiers_tested : (n : ℕ) (to claims paid : List ℕ) (room : ℕ) {b : Bool} {inner outer : ℕ}
@@ -19,17 +21,9 @@ tiers_tested : (n : ℕ) (to claims paid : List ℕ) (room : ℕ) {b : Bool} {in
     → b ≡ owing_in_order n to (min (length claims) (min (length paid) room))
 tiers_tested n to claims paid room e o i = e ∙ rw (o, i) refl
 
--- the second test is of the claims and what is owing
-claims_tested : (n : ℕ) (to claims : List ℕ) {b : Bool} {row flat owing : List ℕ}
-    → b ≡ each_at_most (at row) (at owing) n → row ≡ front places claims → owing ≡ cells (over_tiers (tier_at flat)) n → flat ≡ front tier_places to
-    → b ≡ each_at_most (row_of claims) (owing_of to) n
-claims_tested n to claims e r o f = e ∙ rw r (each_holds _ (holds _ _ (o ∙ rw f refl)))
-
--- the third is of what was paid and the claims
-paid_tested : (n : ℕ) (claims paid : List ℕ) {b : Bool} {row claims_row : List ℕ}
-    → b ≡ each_at_most (at row) (at claims_row) n → row ≡ front places paid → claims_row ≡ front places claims
-    → b ≡ each_at_most (row_of paid) (row_of claims) n
-paid_tested n claims paid e r s = e ∙ rw (r, s) refl
+-- what is owing, in a slice
+owing_holds : (n : ℕ) (to : List ℕ) {flat owing : List ℕ} → owing ≡ cells (over_tiers (tier_at flat)) n → flat ≡ front tier_places to → Holds owing (owing_of to) n
+owing_holds n to o f = holds _ _ (o ∙ rw f refl)
 
 -- what is unpaid of the claims
 unpaid_sum : (n : ℕ) (claims paid : List ℕ) {unpaid row claims_row : List ℕ}
@@ -41,69 +35,78 @@ pub returns-then-not-owing_in_order : goal.returns-then-not-owing_in_order
 unfolding all_of late_money_in_order
 returns-then-not-owing_in_order c =
     let a = c.args in
-    let first = tiers_tested a.n a.to.now a.claims.now a.paid.now a.room c.owing_in_order.ensures c.shorter-2.ensures c.shorter.ensures in
+    let first = tiers_tested a.n a.to.now a.claims.now a.paid.now a.room c.owing_in_order.ensures c.min-2.ensures c.min.ensures in
     simp (sym first ∙ c.if-not-owing_in_order.true)
 
-pub tier_cells_of-to_cells-requires : goal.tier_cells_of-to_cells-requires
-tier_cells_of-to_cells-requires c = (tiers_fitting _ _ _ (sym c.owing_in_order.ensures ∙ c.if-not-owing_in_order.false)).sound.long
+pub front-requires : goal.front-requires
+front-requires c = omega (arith, (tiers_fitting _ _ _ (sym c.owing_in_order.ensures ∙ c.if-not-owing_in_order.false)).sound.long)
 
 pub over_tiers-owing-requires : goal.over_tiers-owing-requires
 over_tiers-owing-requires c =
     let a = c.args in
     let k = (tiers_fitting _ _ _ (sym c.owing_in_order.ensures ∙ c.if-not-owing_in_order.false)).sound in
-    (k.few, λ i h. rw c.tier_cells_of-to_cells.ensures (omega (arith, k.total, sum_term (owing_of a.to.now) a.n i h)))
+    (k.few, λ i h. rw c.front.ensures (omega (arith, k.total, sum_term (owing_of a.to.now) a.n i h)))
 
-pub row_of-claims_row-requires : goal.row_of-claims_row-requires
-row_of-claims_row-requires c =
+pub front-claims-requires : goal.front-claims-requires
+front-claims-requires c =
     let k = tiers_fitting _ _ _ (sym c.owing_in_order.ensures ∙ c.if-not-owing_in_order.false) in
-    omega (arith, k.roomy, c.shorter-2.ensures)
+    omega (arith, k.roomy, c.min-2.ensures)
+
+pub front-paid-requires : goal.front-paid-requires
+front-paid-requires c =
+    let k = tiers_fitting _ _ _ (sym c.owing_in_order.ensures ∙ c.if-not-owing_in_order.false) in
+    omega (arith, k.roomy, c.min-2.ensures, c.min.ensures)
 
 pub each_at_most-requires : goal.each_at_most-requires
 each_at_most-requires c = (tiers_fitting _ _ _ (sym c.owing_in_order.ensures ∙ c.if-not-owing_in_order.false)).sound.few
 
+pub each_at_most-requires-else-not-each_at_most : goal.each_at_most-requires-else-not-each_at_most
+each_at_most-requires-else-not-each_at_most c = (tiers_fitting _ _ _ (sym c.owing_in_order.ensures ∙ c.if-not-owing_in_order.false)).sound.few
+
+-- the second test is of the claims and what is owing, the third of what was paid and the claims
 pub returns-then-not-each_at_most : goal.returns-then-not-each_at_most
 unfolding all_of late_money_in_order
 returns-then-not-each_at_most c =
     let a = c.args in
-    let first = tiers_tested a.n a.to.now a.claims.now a.paid.now a.room c.owing_in_order.ensures c.shorter-2.ensures c.shorter.ensures in
-    let second = claims_tested a.n a.to.now a.claims.now c.each_at_most.ensures c.row_of-claims_row.ensures c.over_tiers-owing.ensures c.tier_cells_of-to_cells.ensures in
-    simp (sym first ∙ c.if-not-owing_in_order.false, sym second ∙ c.if-not-each_at_most.true)
+    let passed = sym c.owing_in_order.ensures ∙ c.if-not-owing_in_order.false in
+    let few = (tiers_fitting _ _ _ passed).sound.few in
+    let first = tiers_tested a.n a.to.now a.claims.now a.paid.now a.room c.owing_in_order.ensures c.min-2.ensures c.min.ensures in
+    let claims = front_holds _ _ a.n c.front-claims.ensures in
+    let paid = front_holds _ _ a.n c.front-paid.ensures in
+    let owing = owing_holds a.n a.to.now c.over_tiers-owing.ensures c.front.ensures in
+    let second = c.each_at_most.ensures ∙ each_tested _ _ a.n (omega (arith, few)) (omega (arith, few)) claims owing in
+    elim c.then-not-each_at_most.branch [
+      | then-not-each_at_most-via-then-not-each_at_most w ↦ simp (sym first ∙ c.if-not-owing_in_order.false, sym second ∙ w.if-not-each_at_most.true)
+      | then-not-each_at_most-via-else-not-each_at_most+then-not-each_at_most-2 w ↦
+          let third = w.each_at_most-else-not-each_at_most.ensures ∙ each_tested _ _ a.n (omega (arith, few)) (omega (arith, few)) paid claims in
+          simp (sym first ∙ c.if-not-owing_in_order.false, sym second ∙ w.if-not-each_at_most.false, sym third ∙ w.if-not-each_at_most-2.true)
+    ]
 
-pub row_of-paid_row-requires : goal.row_of-paid_row-requires
-row_of-paid_row-requires c =
-    let k = tiers_fitting _ _ _ (sym c.owing_in_order.ensures ∙ c.if-not-owing_in_order.false) in
-    omega (arith, k.roomy, c.shorter-2.ensures, c.shorter.ensures)
-
-pub each_at_most-requires-2 : goal.each_at_most-requires-2
-each_at_most-requires-2 c = (tiers_fitting _ _ _ (sym c.owing_in_order.ensures ∙ c.if-not-owing_in_order.false)).sound.few
-
-pub returns-then-not-each_at_most-2 : goal.returns-then-not-each_at_most-2
-unfolding all_of late_money_in_order
-returns-then-not-each_at_most-2 c =
-    let a = c.args in
-    let first = tiers_tested a.n a.to.now a.claims.now a.paid.now a.room c.owing_in_order.ensures c.shorter-2.ensures c.shorter.ensures in
-    let second = claims_tested a.n a.to.now a.claims.now c.each_at_most.ensures c.row_of-claims_row.ensures c.over_tiers-owing.ensures c.tier_cells_of-to_cells.ensures in
-    let third = paid_tested a.n a.claims.now a.paid.now c.each_at_most-2.ensures c.row_of-paid_row.ensures c.row_of-claims_row.ensures in
-    simp (sym first ∙ c.if-not-owing_in_order.false, sym second ∙ c.if-not-each_at_most.false, sym third ∙ c.if-not-each_at_most-2.true)
-
-pub excesses-unpaid-requires : goal.excesses-unpaid-requires
-excesses-unpaid-requires c = (tiers_fitting _ _ _ (sym c.owing_in_order.ensures ∙ c.if-not-owing_in_order.false)).sound.few
+pub excesses-requires : goal.excesses-requires
+excesses-requires c = (tiers_fitting _ _ _ (sym c.owing_in_order.ensures ∙ c.if-not-owing_in_order.false)).sound.few
 
 pub total-requires : goal.total-requires
 total-requires c =
     let a = c.args in
     let k = (tiers_fitting _ _ _ (sym c.owing_in_order.ensures ∙ c.if-not-owing_in_order.false)).sound in
-    let second = claims_tested a.n a.to.now a.claims.now c.each_at_most.ensures c.row_of-claims_row.ensures c.over_tiers-owing.ensures c.tier_cells_of-to_cells.ensures in
-    let unpaid = unpaid_sum a.n a.claims.now a.paid.now c.excesses-unpaid.ensures c.row_of-paid_row.ensures c.row_of-claims_row.ensures in
+    let claims = front_holds _ _ a.n c.front-claims.ensures in
+    let owing = owing_holds a.n a.to.now c.over_tiers-owing.ensures c.front.ensures in
+    let second = c.each_at_most.ensures ∙ each_tested _ _ a.n (omega (arith, k.few)) (omega (arith, k.few)) claims owing in
+    let unpaid = unpaid_sum a.n a.claims.now a.paid.now c.excesses.ensures c.front-paid.ensures c.front-claims.ensures in
     (k.few, rw unpaid (omega (arith, k.total, each_excess (row_of a.claims.now) (owing_of a.to.now) (row_of a.paid.now) a.n (sym second ∙ c.if-not-each_at_most.false))))
 
 pub returns : goal.returns
 unfolding all_of late_money_in_order
 returns c =
     let a = c.args in
-    let first = tiers_tested a.n a.to.now a.claims.now a.paid.now a.room c.owing_in_order.ensures c.shorter-2.ensures c.shorter.ensures in
-    let second = claims_tested a.n a.to.now a.claims.now c.each_at_most.ensures c.row_of-claims_row.ensures c.over_tiers-owing.ensures c.tier_cells_of-to_cells.ensures in
-    let third = paid_tested a.n a.claims.now a.paid.now c.each_at_most-2.ensures c.row_of-paid_row.ensures c.row_of-claims_row.ensures in
-    let unpaid = unpaid_sum a.n a.claims.now a.paid.now c.excesses-unpaid.ensures c.row_of-paid_row.ensures c.row_of-claims_row.ensures in
+    let passed = sym c.owing_in_order.ensures ∙ c.if-not-owing_in_order.false in
+    let few = (tiers_fitting _ _ _ passed).sound.few in
+    let first = tiers_tested a.n a.to.now a.claims.now a.paid.now a.room c.owing_in_order.ensures c.min-2.ensures c.min.ensures in
+    let claims = front_holds _ _ a.n c.front-claims.ensures in
+    let paid = front_holds _ _ a.n c.front-paid.ensures in
+    let owing = owing_holds a.n a.to.now c.over_tiers-owing.ensures c.front.ensures in
+    let second = c.each_at_most.ensures ∙ each_tested _ _ a.n (omega (arith, few)) (omega (arith, few)) claims owing in
+    let third = c.each_at_most-else-not-each_at_most.ensures ∙ each_tested _ _ a.n (omega (arith, few)) (omega (arith, few)) paid claims in
+    let unpaid = unpaid_sum a.n a.claims.now a.paid.now c.excesses.ensures c.front-paid.ensures c.front-claims.ensures in
     simp (sym first ∙ c.if-not-owing_in_order.false, sym second ∙ c.if-not-each_at_most.false, sym third ∙ c.if-not-each_at_most-2.false)
     (rw (c.total.ensures, unpaid) (last_test _))

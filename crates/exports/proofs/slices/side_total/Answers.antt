@@ -1,23 +1,15 @@
-use Prim.Native.Nat.{◌+◌}
-use mathlib.Core.Path.{◌≡◌, sym}
+use borrow.Author.Rules.{rules}
+use Prim.Native.Nat.{◌+◌, ◌-◌, ◌^◌, min}
+use mathlib.Core.Path.{◌≡◌, ◌∙◌}
 use native.Mathlib.Omega.{arith}
-use Rattle.exact.specs.Rows.{at}
-use Rattle.exact.proofs.RowLaws.{sum_none, sum_more, sum_part}
+use lib.ListN.{take}
+use Rattle.std.specs.List.{fold}
+use Rattle.settlement.specs.Month.{side_limit}
+use Rattle.exports.proofs.SliceLaws.{cut_sum}
 use Rattle.exports.proofs.slices.side_total.Goals as goal
-
-pub loop-i-init : goal.loop-i-init
-loop-i-init c = (sym (sum_none _), omega arith)
-
-pub returns-then-total-s : goal.returns-then-total-s
-returns-then-total-s c =
-    let f = at c.args.s.now in
-    omega (arith, c.if-total-s.true, c.loop-i.invariant.0, c.loop-i.invariant.1, sum_more f c.loop-i.i, sum_part f (c.loop-i.i + 1) c.args.count (omega arith))
-
-pub loop-i-preserved : goal.loop-i-preserved
-loop-i-preserved c =
-    omega (arith, c.if-total-s.false, c.loop-i.invariant.0, c.loop-i.invariant.1, sum_more (at c.args.s.now) c.loop-i.i)
 
 pub returns : goal.returns
 returns c =
-    let e : c.loop-i.i ≡ c.args.count = omega arith in
-    omega (arith, c.loop-i.invariant.1, rw e at c.loop-i.invariant.0)
+    let x = c.args in
+    let e : c.fold.result ≡ fold (λ t y. min (min (t + y) (2 ^ 64 - 1)) (side_limit + 1)) 0 (take x.count x.s.now) = search rules in
+    e ∙ cut_sum x.s.now (2 ^ 64 - 1) (side_limit + 1) (omega arith) x.count c.requires

@@ -1,5 +1,4 @@
 use Prim.Native.Nat.{◌≤◌, ◌<◌}
-use mathlib.Core.Path.{◌≡◌}
 use borrow.Author.Tests.{lt-ltb, le-ltb}
 use Rattle.exact.specs.Rows.{at, largest}
 use Rattle.settlement.specs.Groups.{group_count, grouping_allowed}
@@ -10,12 +9,11 @@ unfolding grouping_allowed
 returns-then-largest c =
     let x = c.args in
     let within : largest (at x.grouping.groups) x.n < group_count = rw c.largest.ensures at c.if-largest.true in
-    let most : c.largest-then-largest.result ≡ largest (at x.grouping.reserves) group_count = c.largest-then-largest.ensures in
-    rw (lt-ltb _ _ within, most)
+    rw (lt-ltb _ _ within, c.largest-then-largest.ensures)
 
-pub returns : goal.returns
+pub returns-else-largest : goal.returns-else-largest
 unfolding grouping_allowed
-returns c =
+returns-else-largest c =
     let x = c.args in
     let outside : group_count ≤ largest (at x.grouping.groups) x.n = rw c.largest.ensures at c.if-largest.false in
-    rw (le-ltb _ _ outside)
+    rw (c.largest.ensures, le-ltb _ _ outside)

@@ -20,7 +20,7 @@ loop-least-init c =
     )
 
 pub loop-least-preserved : goal.loop-least-preserved
-loop-least-preserved c = (c.narrowed-next.ensures.0 _ _ c.count_from-count.ensures c.loop-least.invariant.0, search rules)
+loop-least-preserved c = (c.narrowed.ensures.0 _ _ c.count_from-count.ensures c.loop-least.invariant.0, search rules)
 
 pub returns : goal.returns
 returns c =

@@ -84,7 +84,7 @@ pub loop-negative-preserved : goal.loop-negative-preserved
 loop-negative-preserved c =
     let t = c.before.before.before.before in
     let r = t.before in (
-      rw (left_next c.before.before.before, c.excess-negative.ensures, c.total.ensures, lost_total t)
+      rw (left_next c.before.before.before, c.saturating_sub-negative.ensures, c.total.ensures, lost_total t)
           (running_step _ _ _ _ r.loop-negative.invariant.0 (deficit_some r) (weight_some r)),
       omega (arith, c.total_of_positive-positive-in-loop-negative.ensures),
     )

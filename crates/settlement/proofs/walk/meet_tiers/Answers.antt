@@ -52,7 +52,7 @@ loop-t-preserved c =
     let l = b.loop-t in (
       search rules,
       c.sums-next.ensures ∙ cells_cong _ _ _ (turn b),
-      c.excess-left.ensures ∙ rw (b.total-whole.ensures, row_total b.before.before, l.invariant.2) (sym (left_more _ _ _ l.t)),
+      c.saturating_sub-left.ensures ∙ rw (b.total-whole.ensures, row_total b.before.before, l.invariant.2) (sym (left_more _ _ _ l.t)),
     )
 
 pub returns : goal.returns

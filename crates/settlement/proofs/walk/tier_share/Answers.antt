@@ -14,6 +14,6 @@ pub share_by_weight-requires : goal.share_by_weight-requires
 share_by_weight-requires c =
     (c.requires.0, c.requires.2, rw c.requires.1 (unmet_shareable _ _ _ (rw c.requires.1 at c.if-whole-left.false)))
 
-pub returns : goal.returns
-returns c =
+pub returns-else-left-eq0 : goal.returns-else-left-eq0
+returns-else-left-eq0 c =
     c.share_by_weight.ensures ∙ rw c.requires.1 (cells_cong _ _ _ (λ i _. sym (share_unmet _ _ _ (rw c.requires.1 at c.if-whole-left.false) i)))
