@@ -3,12 +3,12 @@ use Prim.Native.Nat.{ℕ, zero, suc, ◌+◌, ◌*◌, ◌≤◌, ◌<◌, max}
 use mathlib.Core.Path.{◌≡◌, refl, sym, ap, ap₂, ◌∙◌}
 use mathlib.Core.Bool.{cond}
 use mathlib.Core.Logic.{◌⊎◌, inl, inr, ⊎_elim}
-use mathlib.Core.List.{List, [], ◌∷◌, ◌++◌, append_assoc, append-nil}
+use mathlib.Core.List.{List, [], ◌∷◌, ◌++◌, append_assoc}
 use native.Mathlib.Omega.{arith}
 use native.Mathlib.Nat.{eq-or-lt_of_le, le_of_suc-le-suc, not-suc-le-zero, suc_inj, max-le}
 use native.Mathlib.Numerals.{add-one}
 use lib.Dec.{eqb}
-use lib.ListN.{get_or, take, drop, set, length, length-set, length-append, length-drop, drop_of_length-le, length-replicate, get_or-append, get_or-eq_default, replicate, get_or-replicate}
+use lib.ListN.{get_or, take, drop, set, length, length-set, length-append, length-drop, length-replicate, get_or-append, get_or-eq_default, replicate, get_or-replicate}
 use lib.Seq.{take-suc, drop-cons, drop_at, set_at, get_or_at, set-get_or, get_or-set_same, get_or-set_other, ext_get_or}
 use Rattle.std.specs.List.{sum_by, fold}
 use Rattle.std.proofs.lemmas.List.Sums.{sum_by_more, fold_more}
@@ -108,14 +108,6 @@ sum_swap f n zero = omega (arith, sum_const 0 n)
 sum_swap f n (suc k) = omega (arith, sum_add (λ i. sum (λ t. f t i) k) (f k) n, sum_swap f n k)
 
 module _ (f : ℕ → ℕ) where
-  pub largest_none : largest f 0 ≡ 0
-  unfolding largest
-  largest_none = refl
-
-  pub largest_more : (n : ℕ) → largest f (n + 1) ≡ max (largest f n) (f n)
-  unfolding largest
-  largest_more n = rw add-one
-
   pub largest_le : (c n : ℕ) → ((i : ℕ) → i < n → f i ≤ c) → largest f n ≤ c
   unfolding largest
   largest_le c zero h = omega arith
@@ -202,10 +194,6 @@ pub table_take : (s : List ℕ) (n : ℕ) → n ≤ length s → table (at s) n 
 unfolding table
 table_take s zero h = refl
 table_take s (suc n) h = rw (table_take s n (omega arith)) (sym (take-suc s n 0 h))
-
-pub filled_take : (s d : List ℕ) (n : ℕ) → n ≤ length s → length d ≡ n → filled (at s) n d ≡ take n s
-unfolding filled
-filled_take s d n h e = rw (table_take s n h, drop_of_length-le d {i = n} (omega arith)) (append-nil (take n s))
 
 -- the sum of f, and the largest, over the front of a list, as a chain reckons them; d is any element
 module _ {X : Type 0} (f : X → ℕ) (s : List X) (d : X) where

@@ -8,7 +8,7 @@ use borrow.Author.Tests.{lt-ltb, le-ltb, eq-eqb, ne_eqb, le-leb, lt-leb}
 use lib.Dec.{ltb, eqb, leb}
 use Rattle.exact.specs.Rows.{sum}
 use Rattle.exact.proofs.Cases.{cases, cases_le, cases_eq, le_or_lt, eq_or_ne}
-use Rattle.exact.proofs.RowLaws.{sum_none, sum_suc, sum_more, sum_cong, sum_mono, sum_add, sum_const, sum_zero, sum_tail, sum_same_or_less}
+use Rattle.exact.proofs.RowLaws.{sum_none, sum_suc, sum_cong, sum_mono, sum_add, sum_const, sum_zero, sum_tail, sum_same_or_less}
 use Rattle.settlement.specs.Sharing.{before, rank, leftover_cent}
 use Rattle.settlement.specs.inner.Cuts.{count_from, CutBetween}
 
@@ -120,14 +120,6 @@ module _ (rest : ℕ → ℕ) where
 pub cent_cong : (rest other : ℕ → ℕ) (n c : ℕ) → ((i : ℕ) → i < n → rest i ≡ other i) → (i : ℕ) → i < n → leftover_cent rest n c i ≡ leftover_cent other n c i
 unfolding leftover_cent rank before
 cent_cong rest other n c same i h = ap (λ (r : ℕ). cond (ltb r c) 1 0) (sum_cong _ _ n (λ j l. rw (same i h, same j l)))
-
-pub count_none : (rest : ℕ → ℕ) (t : ℕ) → count_from rest 0 t ≡ 0
-unfolding count_from
-count_none rest t = sum_none _
-
-pub count_more : (rest : ℕ → ℕ) (n t : ℕ) → count_from rest (n + 1) t ≡ count_from rest n t + cond (leb t (rest n)) 1 0
-unfolding count_from
-count_more rest n t = sum_more _ n
 
 -- 1 where j has just the remainder t
 abbrev pub equals : (ℕ → ℕ) → ℕ → ℕ → ℕ

@@ -20,7 +20,7 @@ pub struct Claimed {
 impl MonthSums {
     // The claims and arrears of a month. Where anything is unpaid the full claim is the retention, so that the set-off needs
     // no retention reckoned anew.
-    pub fn claim(&self, payables: Row, received: Row) -> Claimed
+    pub(crate) fn claim(&self, payables: Row, received: Row) -> Claimed
         requires { Bounded (month_of_sums self.now) × Due (month_of_sums self.now) payables }
         ensures { (due : Due (month_of_sums self.now) payables) → result ≡ claimed (month_of_sums self.now) due.retained (at received) }
     {

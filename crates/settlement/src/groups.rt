@@ -36,9 +36,8 @@ pub fn group_sums(a: Row, groups: Row, n: usize) -> GroupRow
     ensures { result ≡ cells (group_sum (at groups) n (at a)) group_count }
 {
     let mut out = [0u64; GROUPS];
-    for i in 0..n {
-        let k = groups[i] as usize;
-        out[k] = out[k] + a[i];
+    for (cents, group) in a[..n].iter().zip(groups[..n].iter()) {
+        out[*group as usize] += *cents;
     }
     out
 }

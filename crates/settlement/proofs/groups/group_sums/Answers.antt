@@ -1,43 +1,57 @@
-use borrow.Author.Rules.{rules}
-use Prim.Native.Nat.{ℕ}
+-- The loop goes over the two rows side by side, and has taken as many pairs as it has made turns.
+use Rattle.std.proofs.Common.{rules}
+use Prim.Native.Nat.{ℕ, ◌<◌}
 use mathlib.Core.Path.{◌≡◌, ap, ◌∙◌}
 use mathlib.Core.List.{List}
 use native.Mathlib.Omega.{arith}
+use lib.ListN.{length, take, get_or, length-append}
+use Rattle.std.proofs.lemmas.List.{get_or-take, length-take}
+use Rattle.std.proofs.lemmas.Slice.Zip.{zip_turn, zip_end}
 use Rattle.exact.specs.Rows.{at, cells}
 use Rattle.exact.proofs.RowLaws.{cells_zero}
 use Rattle.settlement.specs.Groups.{group_count, group_sum}
 use Rattle.settlement.proofs.GroupLaws.{group_none, group_step, group_room}
 use Rattle.settlement.proofs.groups.group_sums.Goals as goal
 
-pub loop-i-init : goal.loop-i-init
-loop-i-init c = (search rules, cells_zero _ group_count (omega arith) (λ k _. group_none _ _ k))
+-- what a turn takes of one of the rows
+at_turn : (s : List ℕ) (n i y : ℕ) → i < length (take n s) → ((d : ℕ) → y ≡ get_or (take n s) i d) → (i < n) × (y ≡ at s i)
+at_turn s n i y h e = let l : i < n = omega (arith, length-take n s) in (l, e 0 ∙ get_or-take n s i 0 l)
 
-pub offset_bounds-out-k : goal.offset_bounds-out-k
-offset_bounds-out-k c = omega (arith, c.requires.2 c.loop-i.i (omega arith))
+pub loop-cents-init : goal.loop-cents-init
+loop-cents-init c = cells_zero _ group_count (omega arith) (λ k _. group_none _ _ k)
 
-pub bounds-out-k : goal.bounds-out-k
-bounds-out-k c = omega (arith, c.requires.2 c.loop-i.i (omega arith))
+pub bounds-out-group-in-loop-cents : goal.bounds-out-group-in-loop-cents
+bounds-out-group-in-loop-cents c =
+    let x = c.args in
+    let l = c.loop-cents in
+    let t = zip_turn (take x.n x.a) (take x.n x.groups) l.yielded c.into_iter-cents-iterator.result l.cents-iterator c.next.new.self _ (search rules) (search rules) l.yielded_by (c.in-Some.cents, c.in-Some.group) c.in-Some.is c.next.ensures.steps in
+    let a = at_turn x.a x.n _ _ t.0 t.2 in
+    let g = at_turn x.groups x.n _ _ t.1 t.3 in
+    omega (arith, g.1, c.requires.2 (length l.yielded) g.0)
 
 pub overflow_add-out : goal.overflow_add-out
 overflow_add-out c =
     let x = c.args in
-    let l = c.loop-i in
-    omega (arith, ap (λ (out : List ℕ). at out (at x.groups l.i)) l.invariant.1, group_room (at x.groups) (at x.a) l.i (c.requires.2 c.loop-i.i (omega arith)) x.n (omega arith))
+    let l = c.loop-cents in
+    let t = zip_turn (take x.n x.a) (take x.n x.groups) l.yielded c.into_iter-cents-iterator.result l.cents-iterator c.next.new.self _ (search rules) (search rules) l.yielded_by (c.in-Some.cents, c.in-Some.group) c.in-Some.is c.next.ensures.steps in
+    let a = at_turn x.a x.n _ _ t.0 t.2 in
+    let g = at_turn x.groups x.n _ _ t.1 t.3 in
+    let i = length l.yielded in
+    rw (g.1, a.1) (omega (arith, ap (λ (out : List ℕ). at out (at x.groups i)) l.invariant, c.requires.1, group_room (at x.groups) (at x.a) i (c.requires.2 i g.0) x.n g.0))
 
-pub offset_bounds-out-k-in-loop-i : goal.offset_bounds-out-k-in-loop-i
-offset_bounds-out-k-in-loop-i c = omega (arith, c.requires.2 c.loop-i.i (omega arith))
-
-pub bounds-out-k-in-loop-i : goal.bounds-out-k-in-loop-i
-bounds-out-k-in-loop-i c = omega (arith, c.requires.2 c.loop-i.i (omega arith))
-
-pub loop-i-preserved : goal.loop-i-preserved
-loop-i-preserved c =
-    let l = c.loop-i in
-    (search rules, rw l.invariant.1 (group_step _ _ l.i (c.requires.2 c.loop-i.i (omega arith))))
+pub loop-cents-preserved : goal.loop-cents-preserved
+loop-cents-preserved c =
+    let x = c.args in
+    let l = c.loop-cents in
+    let t = zip_turn (take x.n x.a) (take x.n x.groups) l.yielded c.into_iter-cents-iterator.result l.cents-iterator c.next.new.self _ (search rules) (search rules) l.yielded_by (c.in-Some.cents, c.in-Some.group) c.in-Some.is c.next.ensures.steps in
+    let a = at_turn x.a x.n _ _ t.0 t.2 in
+    let g = at_turn x.groups x.n _ _ t.1 t.3 in
+    rw (length-append, l.invariant, g.1, a.1) (group_step _ _ (length l.yielded) (c.requires.2 (length l.yielded) g.0))
 
 pub returns : goal.returns
 returns c =
     let x = c.args in
-    let l = c.loop-i in
-    let whole : l.i ≡ x.n = omega arith in
-    l.invariant.1 ∙ ap (λ (k : ℕ). cells (group_sum (at x.groups) k (at x.a)) group_count) whole
+    let l = c.loop-cents in
+    let t = zip_end (take x.n x.a) (take x.n x.groups) l.yielded c.into_iter-cents-iterator.result l.cents-iterator c.next.new.self _ (search rules) (search rules) l.yielded_by c.in-None.is c.next.ensures.steps in
+    let whole : length l.yielded ≡ x.n = omega (arith, t, length-take x.n x.a, length-take x.n x.groups) in
+    l.invariant ∙ ap (λ (k : ℕ). cells (group_sum (at x.groups) k (at x.a)) group_count) whole

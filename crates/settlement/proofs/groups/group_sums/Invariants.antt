@@ -1,11 +1,8 @@
-use Prim.Native.Nat.{◌-◌, ◌≤◌}
 use mathlib.Core.Path.{◌≡◌}
+use lib.ListN.{length}
 use Rattle.exact.specs.Rows.{at, cells}
 use Rattle.settlement.specs.Groups.{group_count, group_sum}
 use Rattle.settlement.proofs.groups.group_sums.Given as goal
 
-abbrev pub invariant-loop-i : goal.invariant-loop-i
-invariant-loop-i l = (l.i ≤ l.n) × (l.out ≡ cells (group_sum (at l.groups) l.i (at l.a)) group_count)
-
-abbrev pub decreases-loop-i : goal.decreases-loop-i
-decreases-loop-i l = l.n - l.i
+abbrev pub invariant-loop-cents : goal.invariant-loop-cents
+invariant-loop-cents l = l.out ≡ cells (group_sum (at l.fn.groups) (length l.yielded) (at l.fn.a)) group_count
