@@ -1,10 +1,7 @@
 -- What is to be done after a block's runs.
-use Rattle.std.proofs.Common.{◌≡◌, ℕ, ◌-◌, ◌<◌, ◌≤◌, Bool, true, false, cond, eqb, List, [], ◌∷◌, ◌++◌, length, take, drop, sym, refl, ap, ◌∙◌, subst, append-nil, arith, length-drop, eqb-true}
+use Rattle.std.proofs.Common.{◌≡◌, ℕ, ◌<◌, ◌≤◌, Bool, true, false, cond, eqb, List, [], ◌∷◌, ◌++◌, length, drop, sym, refl, ap, ◌∙◌, subst, append-nil, arith, length-drop, eqb-true}
 use mathlib.Core.Bool.{false≢true}
 use borrow.Author.Tests.{eqb-false}
-use lib.Seq.{take-length}
-use Rattle.text.specs.Puts.{Puts}
-use Rattle.text.proofs.PutLaws.{puts_then}
 use Rattle.book.specs.layouts.Reading.{ReadOutcome, reading}
 use Rattle.book.specs.rules.State.{cents_held}
 use Rattle.book.proofs.Laws.{reading_before, reading_empty}
@@ -12,15 +9,11 @@ use Rattle.lister.specs.Lines.{entry_line}
 use Rattle.lister.specs.Listing.{end_line, listing_from}
 use Rattle.lister.specs.Pieces.{Stand, fed, rest}
 use Rattle.lister.specs.Turns.{waiting, Ends, Goes}
-use Rattle.lister.specs.inner.Blocks.{out_room, stand_in, RunsListed, BlockListed}
+use Rattle.lister.specs.inner.Blocks.{stand_in, RunsListed, BlockListed}
 use Rattle.lister.specs.declared.blocks.Standing.{Standing}
 use Rattle.lister.specs.declared.blocks.Next.{Next}
 use Rattle.lister.specs.declared.blocks.Next.TheVariants.{Read, Done}
 use Rattle.lister.proofs.ListingLaws.{listing_unread}
-
--- the bytes of a block from a place on
-pub part_rest : (feed : List ℕ) (place : ℕ) → take (length feed - place) (drop place feed) ≡ drop place feed
-part_rest feed place = ap (λ (k : ℕ). take k (drop place feed)) (sym (length-drop place feed)) ∙ take-length (drop place feed)
 
 -- bytes of which there are none, and some
 pub length_zero : (s : List ℕ) → length s ≡ 0 → s ≡ []
@@ -60,44 +53,33 @@ module _ {ended : Bool} {a z : Stand} {put : List ℕ} (e : Ends ended a put z) 
       ∙ end_before z.number (cents_held z.book) z.left more not_IsShort)
       ∙ sym e.whole
 
-module _ {feed : List ℕ} {a : Standing} {out : List ℕ} {z : Standing} {after words : List ℕ} (r : RunsListed feed a out z after words) (ended : Bool) where
+module _ {feed : List ℕ} {a z : Standing} {out words : List ℕ} (r : RunsListed feed a z out words) (ended : Bool) where
   -- output waits
-  pub block_again : waiting < z.wrote → BlockListed feed a ended out z after words
+  pub block_again : waiting < length out → BlockListed feed a ended z out words
   block_again h = record {
-    put = r.put;
-    wrote = r.wrote;
-    goes = subst (λ (n : Next). Goes ended n z.wrote (stand_in feed a) r.put (stand_in feed z)) (sym r.again)
-        (r.lists, omega (arith, length-drop a.place feed, length-drop z.place feed, r.some h, r.wrote.ready.within), h);
+    ready = r.ready;
+    goes = subst (λ (n : Next). Goes ended n (length out) (stand_in feed a) out (stand_in feed z)) (sym r.again)
+        (r.lists, omega (arith, length-drop a.place feed, length-drop z.place feed, r.some h, r.ready.within), h);
   }
 
-  module _ (h : z.wrote ≤ waiting) where
+  module _ (h : length out ≤ waiting) where
     -- the bytes left are short, and more are to come
     pub block_read : cond ended false (eqb (reading (drop z.place feed) 0).answer 1) ≡ true
-        → BlockListed feed a ended out (record { book = z.book; number = z.number; place = z.place; wrote = z.wrote; next = Read }) after words
+        → BlockListed feed a ended (record { book = z.book; number = z.number; place = z.place; next = Read }) out words
     block_read q = record {
-      put = r.put;
-      wrote = record {
-        puts = r.wrote.puts;
-        room = r.wrote.room;
-        ready = record { valid = r.wrote.ready.valid; within = r.wrote.ready.within; agree = r.wrote.ready.agree };
-      };
+      ready = record { valid = r.ready.valid; within = r.ready.within; agree = r.ready.agree };
       goes = awaited ended q;
     }
       where
-        awaited : (t : Bool) → cond t false (eqb (reading (drop z.place feed) 0).answer 1) ≡ true → Goes t Read z.wrote (stand_in feed a) r.put (stand_in feed z)
+        awaited : (t : Bool) → cond t false (eqb (reading (drop z.place feed) 0).answer 1) ≡ true → Goes t Read (length out) (stand_in feed a) out (stand_in feed z)
         awaited true q = absurd (false≢true q)
         awaited false q = (r.lists, omega (arith, length-drop a.place feed, length-drop z.place feed, r.onward), eqb-true _ _ q)
 
     -- the listing is whole
-    pub block_done : {after' : List ℕ} {wrote' : ℕ} → cond ended false (eqb (reading (drop z.place feed) 0).answer 1) ≡ false
-        → Puts after z.wrote (end_line z.number (cents_held z.book) (drop z.place feed)) after' wrote' → wrote' ≤ out_room
-        → BlockListed feed a ended out (record { book = z.book; number = z.number; place = z.place; wrote = wrote'; next = Done }) after' words
-    block_done {after'} {wrote'} q p room = record {
-      put = r.put ++ end_line z.number (cents_held z.book) (drop z.place feed);
-      wrote = record {
-        puts = puts_then r.wrote.puts p;
-        room = room;
-        ready = record { valid = r.wrote.ready.valid; within = r.wrote.ready.within; agree = r.wrote.ready.agree };
-      };
-      goes = record { before = r.put; lists = r.lists; none = r.stopped h; whole = refl; for_good = λ e. eqb-false _ _ (rw e at q) };
+    pub block_done : {after : List ℕ} → cond ended false (eqb (reading (drop z.place feed) 0).answer 1) ≡ false
+        → after ≡ out ++ end_line z.number (cents_held z.book) (drop z.place feed)
+        → BlockListed feed a ended (record { book = z.book; number = z.number; place = z.place; next = Done }) after words
+    block_done {after} q p = record {
+      ready = record { valid = r.ready.valid; within = r.ready.within; agree = r.ready.agree };
+      goes = record { before = out; lists = r.lists; none = r.stopped h; whole = p; for_good = λ e. eqb-false _ _ (rw e at q) };
     }

@@ -1,7 +1,8 @@
 -- The lines of a run: the first of them and those after it, and lines that stand at the front of other words.
-use Rattle.std.proofs.Common.{◌≡◌, ℕ, zero, suc, ◌+◌, ◌-◌, ◌*◌, ◌%◌, ◌^◌, ◌<◌, ◌≤◌, List, [], ◌∷◌, ◌++◌, length, get_or, drop, sym, refl, ap, ◌∙◌, ⊎_elim, append_assoc, append-nil, add-zero, arith, eq-eqb, ne_eqb}
+use Rattle.std.proofs.Common.{◌≡◌, ℕ, zero, suc, ◌+◌, ◌-◌, ◌*◌, ◌/◌, ◌%◌, ◌^◌, ◌<◌, ◌≤◌, List, [], ◌∷◌, ◌++◌, length, get_or, drop, sym, refl, ap, ◌∙◌, ⊎_elim, append_assoc, append-nil, add-zero, arith, eq-eqb, ne_eqb}
 use lib.ListN.{get_or-append}
-use lib.Seq.{sets, sets-eq}
+use lib.Seq.{drop_at, get_or-drop}
+use Rattle.std.proofs.lemmas.List.{drop-drop}
 use Rattle.exact.specs.Rows.{places}
 use Rattle.exact.proofs.Cases.{le_or_lt}
 use Rattle.lister.specs.Lines.{with_space, with_newline, entry_line, pay_line, pay_lines}
@@ -48,29 +49,17 @@ pub run_none : (first : ℕ) (lines words : List ℕ) → run_lines first lines 
 unfolding run_lines lines_to last_paid
 run_none first lines words = refl
 
--- lines that agree in the words of a run
-module _ (l m : List ℕ) where
-  lines_cong : (first count : ℕ) → ((k : ℕ) → k < count * 3 → get_or l k 0 ≡ get_or m k 0) → lines_to first l count ≡ lines_to first m count
-  unfolding lines_to
-  lines_cong first zero e = refl
-  lines_cong first (suc c) e =
-      rw (lines_cong first c (λ k h. e k (omega arith)), e (c * 3) (omega arith), e (c * 3 + 1) (omega arith), e (c * 3 + 2) (omega arith))
+-- the last of a run's entries, by all of its words
+pub last_none : (l : List ℕ) → length l < 2 → 0 ≡ last_paid l (length l / 3)
+unfolding last_paid
+last_none l h = let z : length l / 3 ≡ 0 = omega arith in rw (eq-eqb (length l / 3) 0 z)
 
-  last_cong : (count : ℕ) → ((k : ℕ) → k < count * 3 → get_or l k 0 ≡ get_or m k 0) → last_paid l count ≡ last_paid m count
-  unfolding last_paid
-  last_cong zero e = refl
-  last_cong (suc c) e = rw (e ((suc c - 1) * 3 + 1) (omega arith))
-
-  run_cong : (first count : ℕ) (words : List ℕ) → ((k : ℕ) → k < count * 3 → get_or l k 0 ≡ get_or m k 0) → run_lines first l count words ≡ run_lines first m count words
-  unfolding run_lines
-  run_cong first count words e = rw (lines_cong first count e, last_cong count e)
-
--- the lines of a run, put at the front of lent words
-pub run_stored : (first count : ℕ) (old lines words : List ℕ) → length lines ≡ count * 3 → length lines ≤ length old
-    → run_lines first (sets old 0 lines) count words ≡ run_lines first lines count words
-run_stored first count old lines words n h = run_cong (sets old 0 lines) lines first count words (λ k l.
-    ap (λ (s : List ℕ). get_or s k 0) (sets-eq lines old 0 (omega arith))
-    ∙ get_or-append lines (drop (0 + length lines) old) 0 k (omega arith))
+pub last_some : (l : List ℕ) → length l % 3 ≡ 0 → 2 ≤ length l → get_or l (length l - 2) 0 ≡ last_paid l (length l / 3)
+unfolding last_paid
+last_some l t h =
+    let some : length l / 3 ≡ 0 → ⊥ = λ z. absurd (omega (arith, z)) in
+    let e : length l - 2 ≡ (length l / 3 - 1) * 3 + 1 = omega arith in
+    rw (ne_eqb (length l / 3) 0 some) (ap (λ (k : ℕ). get_or l k 0) e)
 
 -- only an entry's number modulo 2 ^ 64 counts
 pub line_mod : (m k answer paid held : ℕ) → m % 2 ^ 64 ≡ k % 2 ^ 64 → entry_line m answer paid held ≡ entry_line k answer paid held
@@ -109,3 +98,13 @@ pays_tail words n (suc m) h e = ⊎_elim
     (λ (l : n ≤ m). rw (eq-eqb (get_or words m 0) 0 (e m l)) (append-nil (pay_lines words m) ∙ pays_tail words n m l e))
     (λ (l : m < n). let z : suc m ≡ n = omega arith in ap (pay_lines words) z)
     (le_or_lt n m)
+
+-- a chunk of three words that comes off the words left behind n chunks
+module _ (lines rest x rest' : List ℕ) (n : ℕ) (d : rest ≡ drop (n * 3) lines) (e : rest ≡ x ++ rest') (three : length x ≡ 3) where
+  pub chunk_word : (j : ℕ) → j < 3 → get_or x j 0 ≡ get_or lines (n * 3 + j) 0
+  chunk_word j h = sym (get_or-append x rest' 0 j (omega arith)) ∙ ap (λ (s : List ℕ). get_or s j 0) (sym e ∙ d) ∙ get_or-drop (n * 3) lines j 0
+
+  pub chunk_rest : rest' ≡ drop (suc n * 3) lines
+  chunk_rest =
+      let k : n * 3 + 3 ≡ suc n * 3 = omega arith in
+      sym (drop_at x rest' 3 three) ∙ ap (drop 3) (sym e ∙ d) ∙ drop-drop 3 (n * 3) lines ∙ ap (λ (i : ℕ). drop i lines) k

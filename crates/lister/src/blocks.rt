@@ -1,55 +1,53 @@
 // A block of the input.
-ghost use Rattle.std.specs.Prelude.{◌≡◌, ◌≤◌, false, if◌then◌else◌, ◌==◌};
-ghost use Rattle.text.specs.Puts.{Puts};
+ghost use Rattle.std.specs.Prelude.{◌≡◌, ◌≤◌, ◌++◌, length, false, if◌then◌else◌, ◌==◌};
 ghost use Rattle.book.specs.layouts.Reading.{reading};
 ghost use Rattle.lister.specs.Listing.{end_line};
 ghost use Rattle.lister.specs.Turns.{waiting};
-ghost use Rattle.lister.specs.inner.Blocks.{out_room, Ready, BlockListed};
+ghost use Rattle.lister.specs.inner.Blocks.{Ready, BlockListed};
 ghost use Rattle.lister.specs.declared.blocks.Next.TheVariants.{Again};
 
-use crate::lines::{Words, put_line};
-use crate::runs::{Lines, list_runs};
+use crate::lines::put_line;
+use crate::runs::{Work, list_runs};
 use book::{Book, Reading};
-use text::part;
+use text::Buffer;
 
 // The bytes of a block of output.
 pub const OUT: usize = 262144;
 
-pub type Out = [u8; OUT];
+pub type Out = Buffer<OUT>;
 
 // Where more bytes of output than this wait they are written out first: behind so many there is room for the lines of 512
 // entries and of all payouts.
 pub const WAITING: usize = 212992;
 
 // What is to be done once the output is written: list on in the block, read more of the input, or nothing.
-#[derive(Clone, Copy)]
+#[derive(Clone, Copy, PartialEq, Eq, Debug)]
 pub enum Next {
     Again,
     Read,
     Done,
 }
 
-// Where a listing stands in a block: the book, the number and the place of the next entry, how many bytes of output wait, and
-// what is to be done next.
+// Where a listing stands in a block: the book, the number and the place of the next entry, and what is to be done next.
 #[derive(Clone, Copy)]
 pub struct Standing {
     pub book: Book,
     pub number: u64,
     pub place: usize,
-    pub wrote: usize,
     pub next: Next,
 }
 
-// Where a listing stands before its first entry, behind n.
-pub fn at_first(first: Book) -> Standing
-    ensures { result ≡ record { book = first; number = 1; place = 1; wrote = 0; next = Again } }
-{
-    Standing {
-        book: first,
-        number: 1,
-        place: 1,
-        wrote: 0,
-        next: Next::Again,
+impl Standing {
+    // Where a listing stands before its first entry, behind n.
+    pub fn at_first(book: Book) -> Self
+        ensures { result ≡ record { book = book; number = 1; place = 1; next = Again } }
+    {
+        Standing {
+            book,
+            number: 1,
+            place: 1,
+            next: Next::Again,
+        }
     }
 }
 
@@ -67,61 +65,43 @@ fn answer_at_front(left: &[u8]) -> u64
 
 // The end of a listing before the bytes left: the line of an entry that cannot be read, where there are any.
 #[tactic(auto, using(crate::proofs::BlockTurns::end_none, crate::proofs::BlockTurns::end_some))]
-fn put_end(out: &mut Out, place: usize, number: u64, held: u64, left: &[u8]) -> usize
-    requires { place ≤ waiting }
-    ensures puts { Puts out.old place (end_line number held left.now) out.new result }
-    ensures upper_bound { result ≤ out_room }
+fn put_end(out: &mut Out, number: u64, held: u64, left: &[u8])
+    requires { length out.old ≤ waiting }
+    ensures { out.new ≡ out.old ++ end_line number held left.now }
 {
-    if left.len() == 0 {
-        return place;
+    if left.is_empty() {
+        return;
     }
-    put_line(out, place, number, answer_at_front(left), 0, held)
+    put_line(out, number, answer_at_front(left), 0, held);
 }
 
 // Whether more of the input is awaited: the bytes left are short, and the input has not ended.
 fn is_awaited(answer: u64, ended: bool) -> bool
     ensures { result ≡ (if ended then false else (answer == 1)) }
 {
-    if ended {
-        return false;
-    }
-    answer == 1
+    !ended && answer == 1
 }
 
 // Lists a block from a place on: until output waits, the bytes left are short and more are to come, or the listing is whole.
 // Of the payout words those from n on are as they were first lent; the lines are free.
-pub fn list_block(
-    start: Standing,
-    feed: &[u8],
-    ended: bool,
-    out: &mut Out,
-    words: &mut Words,
-    lines: &mut Lines,
-) -> Standing
-    requires { Ready feed.now start words.old }
-    ensures { BlockListed feed.now start ended out.old result out.new words.new }
+pub fn list_block(start: Standing, feed: &[u8], ended: bool, work: &mut Work) -> Standing
+    requires { Ready feed.now start work.old.words }
+    ensures { BlockListed feed.now start ended result work.new.out work.new.words }
 {
-    let s = list_runs(start, feed, out, words, lines);
-    if WAITING < s.wrote {
+    let s = list_runs(start, feed, work);
+    if WAITING < work.out.len() {
         return s;
     }
-    let left = part(feed, s.place, feed.len());
-    let b = s.book;
+    let left = &feed[s.place..];
     if is_awaited(answer_at_front(left), ended) {
         return Standing {
-            book: b,
-            number: s.number,
-            place: s.place,
-            wrote: s.wrote,
             next: Next::Read,
+            ..s
         };
     }
-    let wrote = put_end(out, s.wrote, s.number, book::held(b), left);
+    put_end(&mut work.out, s.number, book::held(s.book), left);
     Standing {
-        book: b,
-        number: s.number,
-        place: s.place,
-        wrote,
         next: Next::Done,
+        ..s
     }
 }

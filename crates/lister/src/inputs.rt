@@ -1,42 +1,31 @@
 // The input, block after block. The contracts count the bytes: that those which were read are those listed, and those listed
 // the ones written, is to be read here.
-ghost use Rattle.std.specs.Prelude.{◌≡◌};
+ghost use Rattle.std.specs.Prelude.{◌≡◌, []};
 ghost use Rattle.lister.specs.Listing.{book_for, lent};
 ghost use Rattle.lister.specs.Sessions.{Session};
 ghost use Rattle.lister.specs.inner.Blocks.{Begun};
 
-use crate::blocks::{Next, OUT, Out, at_first, list_block};
-use crate::ends::{End, Ending, ended_by, why_ended};
-use crate::lines::{WORDS, Words, put_header};
-use crate::runs::{LINES, Lines};
+use crate::blocks::{Next, Standing, list_block};
+use crate::ends::{End, Ending, why_ended};
+use crate::lines::{WORDS, header};
+use crate::runs::{LINES, Work};
 use book::{Book, Limits};
 use std::io::{Read, Write};
-use text::{
-    Fetched, Output, has_ended, has_failed, is_written, keep, part, read_more, unread, unwritten,
-    write_out,
-};
+use text::{Buffer, Input, Output};
 
 // The bytes of a block of input.
 const BLOCK: usize = 65536;
 
-type Block = [u8; BLOCK];
+type Block = Buffer<BLOCK>;
 
 // The most turns: the largest number of 64 bits.
-const TURNS: u64 = 0xffff_ffff_ffff_ffff;
-
-fn size(n: u8) -> usize
-    ensures { result ≡ n }
-{
-    n as usize
-}
+const TURNS: u64 = u64::MAX;
 
 // The book of a listing: each participant is in a group of its own, and no group has a reserve.
 fn first_book(limits: Limits, n: u8) -> Book
     ensures { result ≡ book_for limits n }
 {
-    let m = book::separate(size(n), limits);
-    let made = book::new(m);
-    made.book
+    book::new(book::separate(usize::from(n), limits)).book
 }
 
 // Lists block after block, in a book for n, which is the first byte. Each turn lists, writes out what was listed and, where the
@@ -45,50 +34,62 @@ fn list_blocks<R: Read, W: Write>(
     from: &mut R,
     to: &mut W,
     limits: Limits,
-    read: Fetched,
+    begun: Input,
     headed: Output,
     feed: &mut Block,
-    out: &mut Out,
-    words: &mut Words,
-    lines: &mut Lines,
+    work: &mut Work,
 ) -> Ending
-    requires { Begun read headed feed.old words.old }
+    requires { Begun begun headed feed.old work.old.words }
     ensures { Session limits result }
 {
-    let first = first_book(limits, feed[0]);
-    let mut s = at_first(first);
-    let mut input = read.input;
-    let mut filled = read.filled;
+    let mut input = begun;
     let mut output = headed;
-    let mut turns: u64 = 0;
-    while turns < TURNS {
-        turns += 1;
-        let ended = has_ended(input);
-        let t = list_block(s, part(feed, 0, filled), ended, out, words, lines);
-        s = t;
-        let w = write_out(to, output, out, s.wrote);
-        output = w;
-        if !is_written(output) {
-            return ended_by(End::NotWritten, turns, input, output);
+    let mut s = Standing::at_first(first_book(limits, feed.bytes()[0]));
+    for turns in 1..=TURNS {
+        s = list_block(s, feed.bytes(), input.has_ended(), work);
+        output.write_out(to, work.out.bytes());
+        if !output.is_written() {
+            let why = End::NotWritten;
+            return Ending {
+                why,
+                turns,
+                input,
+                output,
+            };
         }
-        let next = s.next;
-        match next {
+        match s.next {
             Next::Again => {}
             Next::Read => {
-                filled = keep(feed, s.place, filled);
+                feed.drop_front(s.place);
                 s.place = 0;
-                let r = read_more(from, input, feed, filled);
-                filled = r.filled;
-                let i = r.input;
-                input = i;
-                if has_failed(input) {
-                    return ended_by(End::NotRead, turns, input, output);
+                input.read_more(from, feed);
+                if input.has_failed() {
+                    let why = End::NotRead;
+                    return Ending {
+                        why,
+                        turns,
+                        input,
+                        output,
+                    };
                 }
             }
-            Next::Done => return ended_by(why_ended(input), turns, input, output),
+            Next::Done => {
+                let why = why_ended(&input);
+                return Ending {
+                    why,
+                    turns,
+                    input,
+                    output,
+                };
+            }
         }
     }
-    ended_by(End::Turns, turns, input, output)
+    Ending {
+        why: End::Turns,
+        turns: TURNS,
+        input,
+        output,
+    }
 }
 
 // Writes the header, reads n and lists the entries behind it.
@@ -97,35 +98,46 @@ fn list_input<R: Read, W: Write>(
     to: &mut W,
     limits: Limits,
     feed: &mut Block,
-    out: &mut Out,
-    words: &mut Words,
-    lines: &mut Lines,
+    work: &mut Work,
 ) -> Ending
-    requires { words.old ≡ lent }
+    requires { (feed.old ≡ []) × (work.old.words ≡ lent) }
     ensures { Session limits result }
 {
-    let headed = put_header(out, 0);
-    let output = write_out(to, unwritten(), out, headed);
-    if !is_written(output) {
-        return ended_by(End::NotWritten, 0, unread(), output);
+    let mut input = Input::unread();
+    let mut output = Output::unwritten();
+    let turns = 0;
+    output.write_out(to, header());
+    if !output.is_written() {
+        let why = End::NotWritten;
+        return Ending {
+            why,
+            turns,
+            input,
+            output,
+        };
     }
-    let read = read_more(from, unread(), feed, 0);
-    if read.filled == 0 {
-        let input = read.input;
-        return ended_by(why_ended(input), 0, input, output);
+    input.read_more(from, feed);
+    if feed.len() == 0 {
+        let why = why_ended(&input);
+        return Ending {
+            why,
+            turns,
+            input,
+            output,
+        };
     }
-    list_blocks(from, to, limits, read, output, feed, out, words, lines)
+    list_blocks(from, to, limits, input, output, feed, work)
 }
 
 // Lists an input on an output, in a book of these limits.
 pub fn list<R: Read, W: Write>(from: &mut R, to: &mut W, limits: Limits) -> Ending
     ensures { Session limits result }
 {
-    let mut feed = [0u8; BLOCK];
-    let mut out = [0u8; OUT];
-    let mut words = [0u64; WORDS];
-    let mut lines = [0u64; LINES];
-    list_input(
-        from, to, limits, &mut feed, &mut out, &mut words, &mut lines,
-    )
+    let mut feed = Buffer::new();
+    let mut work = Work {
+        out: Buffer::new(),
+        words: [0; WORDS],
+        lines: [0; LINES],
+    };
+    list_input(from, to, limits, &mut feed, &mut work)
 }

@@ -1,73 +1,62 @@
 // The lines of the listing.
-ghost use Rattle.std.specs.Prelude.{◌+◌, ◌*◌, ◌≤◌, length};
+ghost use Rattle.std.specs.Prelude.{◌≡◌, ◌+◌, ◌*◌, ◌≤◌, ◌++◌, length};
 ghost use Rattle.exact.specs.Rows.{places};
-ghost use Rattle.text.specs.Puts.{Puts};
 ghost use Rattle.lister.specs.Lines.{header, entry_line, pay_line, pay_lines};
 ghost use Rattle.lister.specs.inner.Runs.{line_room, pay_room};
+ghost use Rattle.lister.specs.inner.Blocks.{out_room};
 
+use crate::blocks::Out;
 use exact::PLACES;
-use text::{put_bytes, put_number};
 
 // How many payout words the book is lent.
 pub const WORDS: usize = PLACES;
 
 pub type Words = [u64; WORDS];
 
-const SPACE: u8 = 32;
+const SPACE: u8 = b' ';
 
-const NEWLINE: u8 = 10;
+const NEWLINE: u8 = b'\n';
 
 // The first line.
-pub fn put_header(out: &mut [u8], place: usize) -> usize
-    requires { place + length header ≤ length out.old }
-    ensures { Puts out.old place header out.new result }
+pub fn header() -> &'static [u8]
+    ensures { result.now ≡ header }
 {
-    put_bytes(out, place, b"entry answer paid held\n")
+    b"entry answer paid held\n"
 }
 
 // The line of an entry: its number, the answer, the cents paid by it and the cents held.
-pub fn put_line(
-    out: &mut [u8],
-    place: usize,
-    number: u64,
-    answer: u64,
-    paid: u64,
-    held: u64,
-) -> usize
-    requires { place + line_room ≤ length out.old }
-    ensures puts { Puts out.old place (entry_line number answer paid held) out.new result }
-    ensures upper_bound { result ≤ place + line_room }
+pub fn put_line(out: &mut Out, number: u64, answer: u64, paid: u64, held: u64)
+    requires { length out.old + line_room ≤ out_room }
+    ensures puts { out.new ≡ out.old ++ entry_line number answer paid held }
+    ensures upper_bound { length out.new ≤ length out.old + line_room }
 {
-    let a = put_number(out, place, number, SPACE);
-    let b = put_number(out, a, answer, SPACE);
-    let c = put_number(out, b, paid, SPACE);
-    put_number(out, c, held, NEWLINE)
+    out.put_number(number, SPACE);
+    out.put_number(answer, SPACE);
+    out.put_number(paid, SPACE);
+    out.put_number(held, NEWLINE);
 }
 
 // The line of a payout, where there is one.
 #[tactic(auto, using(crate::proofs::LineLaws::pay_none))]
-fn put_pay(out: &mut [u8], place: usize, participant: u64, cents: u64) -> usize
-    requires { place + pay_room ≤ length out.old }
-    ensures puts { Puts out.old place (pay_line participant cents) out.new result }
-    ensures upper_bound { result ≤ place + pay_room }
+fn put_pay(out: &mut Out, participant: u64, cents: u64)
+    requires { length out.old + pay_room ≤ out_room }
+    ensures puts { out.new ≡ out.old ++ pay_line participant cents }
+    ensures upper_bound { length out.new ≤ length out.old + pay_room }
 {
     if cents == 0 {
-        return place;
+        return;
     }
-    let a = put_bytes(out, place, b"pay ");
-    let b = put_number(out, a, participant, SPACE);
-    put_number(out, b, cents, NEWLINE)
+    out.put(b"pay ");
+    out.put_number(participant, SPACE);
+    out.put_number(cents, NEWLINE);
 }
 
 // The lines of all payouts.
-pub fn put_pays(out: &mut [u8], place: usize, words: &Words) -> usize
-    requires { place + places * pay_room ≤ length out.old }
-    ensures puts { Puts out.old place (pay_lines words.now places) out.new result }
-    ensures upper_bound { result ≤ place + places * pay_room }
+pub fn put_pays(out: &mut Out, words: &Words)
+    requires { length out.old + places * pay_room ≤ out_room }
+    ensures { out.new ≡ out.old ++ pay_lines words.now places }
 {
-    let mut next = place;
-    for i in 0..WORDS {
-        next = put_pay(out, next, i as u64, words[i]);
+    for (i, cents) in words.iter().enumerate() {
+        put_pay(out, i as u64, *cents);
     }
-    next
 }

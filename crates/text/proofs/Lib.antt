@@ -1,4 +1,3 @@
-pub mod PutLaws
+pub mod BufferLaws
 pub mod NumberLaws
-pub mod BlockLaws
 pub mod StreamLaws

@@ -1,11 +1,10 @@
 -- What a read leaves.
-use Rattle.std.proofs.Common.{◌≡◌, refl, sym, ap, ◌∙◌, ℕ, ◌<◌, true, false, List, ◌++◌, take, drop, arith}
+use Rattle.std.proofs.Common.{◌≡◌, refl, sym, ap, ◌∙◌, ℕ, ◌<◌, true, false, List, ◌++◌, length, drop, arith}
 use Rattle.std.proofs.Math.ListN.{take-append-drop}
-use Rattle.std.proofs.Math.Seq.{take-take}
 use Rattle.text.specs.Streams.{is_ended, is_failed, Came, Fetches}
 use Rattle.text.specs.declared.streams.Last.{Last}
 use Rattle.text.specs.declared.streams.Last.TheVariants.{More, Ended, Failed}
-use Rattle.text.specs.declared.streams.Fetched.{Fetched}
+use Rattle.text.specs.declared.streams.Input.{Input}
 
 -- a read that brought bytes may be followed by another
 pub brought : (l : Last) (more : ℕ) → Came l more → 0 < more → l ≡ More
@@ -25,8 +24,6 @@ failed_of Ended f = cc
 failed_of Failed f = refl
 
 -- the bytes after a read are those before it, and others behind them
-pub fetched_front : {total filled : ℕ} {before after : List ℕ} {r : Fetched} → Fetches total before filled after r
-    → take r.filled after ≡ take filled before ++ drop filled (take r.filled after)
-fetched_front {total} {filled} {before} {after} {r} f =
-    let l : List ℕ = take r.filled after in
-    sym (take-append-drop filled l) ∙ ap (λ (x : List ℕ). x ++ drop filled l) (take-take filled r.filled after f.onward ∙ f.same)
+pub fetched : {total : ℕ} {before after : List ℕ} {i : Input} → Fetches total before i after → after ≡ before ++ drop (length before) after
+fetched {total} {before} {after} f =
+    sym (take-append-drop (length before) after) ∙ ap (λ (x : List ℕ). x ++ drop (length before) after) f.same

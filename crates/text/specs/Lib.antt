@@ -1,4 +1,2 @@
-pub mod Puts
 pub mod Numbers
-pub mod Blocks
 pub mod Streams

@@ -2,7 +2,7 @@
 use Rattle.std.specs.Prelude.{ℕ, ◌+◌, ◌-◌, ◌^◌, ◌≤◌, ◌<◌, min, ◌≡◌, ◌==◌, Bool, true, false, cond, List, Result, Ok, Err, length, take}
 use Rattle.text.specs.declared.streams.Last.{Last}
 use Rattle.text.specs.declared.streams.Last.TheVariants.{More, Ended, Failed}
-use Rattle.text.specs.declared.streams.Fetched.{Fetched}
+use Rattle.text.specs.declared.streams.Input.{Input}
 
 -- the largest number of 64 bits: a count stays there, so that one below it is exact
 abbrev pub most : ℕ
@@ -30,11 +30,15 @@ Came More more = 0 < more
 Came Ended more = more ≡ 0
 Came Failed more = more ≡ 0
 
--- a read behind the first `filled` bytes of a block, with so many read before it: these bytes stay, and those that came
--- stand behind them and are counted
-pub record Fetches (total : ℕ) (before : List ℕ) (filled : ℕ) (after : List ℕ) (r : Fetched) : Type 0 where
-  pub onward : filled ≤ r.filled
-  pub within : r.filled ≤ length after
-  pub same : take filled after ≡ take filled before
-  pub came : Came r.input.last (r.filled - filled)
-  pub counted : r.input.total ≡ min (total + (r.filled - filled)) most
+-- how many bytes a read brought that answered `got`
+abbrev pub came : {E : Type 0} → Result ℕ E → ℕ
+came (Ok more) = more
+came (Err _) = 0
+
+-- a read behind the bytes of a block, with so many read before it: these bytes stay, and those that came stand behind them and
+-- are counted
+pub record Fetches (total : ℕ) (before : List ℕ) (i : Input) (after : List ℕ) : Type 0 where
+  pub onward : length before ≤ length after
+  pub same : take (length before) after ≡ before
+  pub came : Came i.last (length after - length before)
+  pub counted : i.total ≡ min (total + (length after - length before)) most

@@ -1,15 +1,9 @@
-// What the programs read and write with: text put into lent bytes, blocks of bytes, and streams.
+// What the programs read and write with: bytes one behind the other, numbers as text, and streams.
 #![tactic(auto)]
 
-mod blocks;
+mod buffers;
 mod numbers;
-mod puts;
 mod streams;
 
-pub use blocks::{keep, part};
-pub use numbers::put_number;
-pub use puts::put_bytes;
-pub use streams::{
-    Errors, Fetched, Input, Last, Output, has_ended, has_failed, is_written, read_more, unread,
-    unwritten, write_error, write_out,
-};
+pub use buffers::Buffer;
+pub use streams::{Errors, Input, Last, Output, write_error};

@@ -4,13 +4,9 @@ ghost use Rattle.book.specs.rules.Valid.{Valid};
 ghost use Rattle.trial.specs.Calls.{call_length};
 
 use crate::calls::{Call, READ_LENGTH, entry_of, fields_at, number_at};
-use crate::lines::{NUMBERS, layout_of, put_line};
+use crate::lines::{NUMBERS, Out, layout_of, put_line};
 use crate::makings::{grouped_at, limited_at, separate_at};
-use book::{Book, Entry, Making, Reading, Writing};
-use text::part;
-
-// The bytes of a block of output.
-pub const BLOCK: usize = 65536;
+use book::{Book, Entry, Made, Making, Reading, Writing};
 
 // The most words, or bytes, that are lent, and the numbers of a line before these.
 const ROOM: usize = 255;
@@ -24,13 +20,6 @@ const WORD: u64 = 9;
 
 const BYTE: u8 = 238;
 
-// The book that a call leaves, and how many bytes its line takes.
-#[derive(Clone, Copy)]
-pub struct Called {
-    pub book: Book,
-    pub wrote: usize,
-}
-
 fn size(x: u8) -> usize
     ensures { result < 256 }
 {
@@ -42,46 +31,32 @@ fn wide(x: u8) -> u64 {
 }
 
 // Makes the book that all later calls go to.
-fn make(m: Making, out: &mut [u8; BLOCK]) -> Called
-    ensures { Valid result.book × (result.wrote ≤ 65536) }
+fn make(m: Making, out: &mut Out) -> Book
+    ensures { Valid result }
 {
-    let made = book::new(m);
-    let answer = made.answer;
-    let mut numbers = [0u64; NUMBERS];
-    numbers[0] = book::number(answer);
-    let next = put_line(out, b"book ", &numbers, 1);
-    let left = made.book;
-    Called {
-        book: left,
-        wrote: next,
-    }
+    let Made { book, answer } = book::new(m);
+    put_line(out, b"book ", &[book::number(answer)]);
+    book
 }
 
 // Applies an entry.
-fn apply(b: Book, s: &[u8], out: &mut [u8; BLOCK]) -> Called
+fn apply(b: Book, s: &[u8], out: &mut Out) -> Book
     requires { Valid b × (34 ≤ length s.now) }
-    ensures { Valid result.book × (result.wrote ≤ 65536) }
+    ensures { Valid result }
 {
     let f = fields_at(s, 0);
     let count = BEFORE_WORDS + size(f.room);
     let mut numbers = [WORD; NUMBERS];
     let r = book::apply(b, entry_of(f), &mut numbers[BEFORE_WORDS..count]);
-    let answer = r.answer;
-    let left = r.book;
-    numbers[0] = book::number(answer);
+    numbers[0] = book::number(r.answer);
     numbers[1] = r.rounds;
-    numbers[2] = book::held(left);
-    let next = put_line(out, b"apply ", &numbers, count);
-    Called {
-        book: left,
-        wrote: next,
-    }
+    numbers[2] = book::held(r.book);
+    put_line(out, b"apply ", &numbers[..count]);
+    r.book
 }
 
 // Puts the line of a read that found an entry.
-fn put_found(out: &mut [u8; BLOCK], entry: Entry, next: usize) -> usize
-    ensures { result ≤ 65536 }
-{
+fn put_found(out: &mut Out, entry: Entry, next: usize) {
     let e = layout_of(entry);
     let fields = e.fields;
     let mut numbers = [0u64; NUMBERS];
@@ -94,27 +69,21 @@ fn put_found(out: &mut [u8; BLOCK], entry: Entry, next: usize) -> usize
     numbers[7] = fields[4];
     numbers[8] = fields[5];
     numbers[9] = fields[6];
-    put_line(out, b"read ", &numbers, 3 + e.count)
+    put_line(out, b"read ", &numbers[..3 + e.count]);
 }
 
 // Puts the line of a read that was refused.
-fn put_refused(out: &mut [u8; BLOCK], answer: u64, place: usize) -> usize
-    ensures { result ≤ 65536 }
-{
-    let mut numbers = [0u64; NUMBERS];
-    numbers[0] = answer;
-    numbers[1] = place as u64;
-    put_line(out, b"read ", &numbers, 2)
+fn put_refused(out: &mut Out, answer: u64, place: usize) {
+    put_line(out, b"read ", &[answer, place as u64]);
 }
 
 // Reads an entry.
-fn read(s: &[u8], count: usize, out: &mut [u8; BLOCK]) -> usize
+fn read(s: &[u8], count: usize, out: &mut Out)
     requires { 11 + count ≤ length s.now }
-    ensures { result ≤ 65536 }
 {
     let place = number_at(s, 1, 8) as usize;
     let end = READ_LENGTH + count;
-    let reading = book::read_next(part(s, READ_LENGTH, end), place);
+    let reading = book::read_next(&s[READ_LENGTH..end], place);
     match reading {
         Reading::Found { entry, next } => put_found(out, entry, next),
         Reading::Short => put_refused(out, 1, place),
@@ -124,15 +93,8 @@ fn read(s: &[u8], count: usize, out: &mut [u8; BLOCK]) -> usize
 }
 
 // Puts the line of a write: the answer, how many bytes were written, and each lent byte as left.
-fn put_written(
-    out: &mut [u8; BLOCK],
-    answer: u64,
-    written: usize,
-    bytes: &[u8; ROOM],
-    room: usize,
-) -> usize
+fn put_written(out: &mut Out, answer: u64, written: usize, bytes: &[u8; ROOM], room: usize)
     requires { room ≤ 255 }
-    ensures { result ≤ 65536 }
 {
     let mut numbers = [0u64; NUMBERS];
     numbers[0] = answer;
@@ -140,13 +102,12 @@ fn put_written(
     for i in 0..room {
         numbers[BEFORE_BYTES + i] = wide(bytes[i]);
     }
-    put_line(out, b"write ", &numbers, BEFORE_BYTES + room)
+    put_line(out, b"write ", &numbers[..BEFORE_BYTES + room]);
 }
 
 // Writes an entry.
-fn write(s: &[u8], out: &mut [u8; BLOCK]) -> usize
+fn write(s: &[u8], out: &mut Out)
     requires { 34 ≤ length s.now }
-    ensures { result ≤ 65536 }
 {
     let f = fields_at(s, 0);
     let room = size(f.room);
@@ -159,10 +120,10 @@ fn write(s: &[u8], out: &mut [u8; BLOCK]) -> usize
     }
 }
 
-// Makes the call that stands at the start of s.
-pub fn call(b: Book, c: Call, s: &[u8], out: &mut [u8; BLOCK]) -> Called
+// Makes the call that stands at the start of s, and puts its line; answers the book that it leaves.
+pub fn call(b: Book, c: Call, s: &[u8], out: &mut Out) -> Book
     requires { Valid b × (call_length c ≤ length s.now) }
-    ensures { Valid result.book × (result.wrote ≤ 65536) }
+    ensures { Valid result }
 {
     match c {
         Call::Make => make(separate_at(s), out),
@@ -170,20 +131,16 @@ pub fn call(b: Book, c: Call, s: &[u8], out: &mut [u8; BLOCK]) -> Called
         Call::MakeLimited => make(limited_at(s), out),
         Call::Apply => apply(b, s, out),
         Call::Read(count) => {
-            let next = read(s, count as usize, out);
-            Called {
-                book: b,
-                wrote: next,
-            }
+            read(s, count as usize, out);
+            b
         }
         Call::Write => {
-            let next = write(s, out);
-            Called {
-                book: b,
-                wrote: next,
-            }
+            write(s, out);
+            b
         }
-        Call::More => Called { book: b, wrote: 0 },
-        Call::Stop => Called { book: b, wrote: 0 },
+        Call::More | Call::Stop => {
+            out.clear();
+            b
+        }
     }
 }

@@ -3,11 +3,16 @@ ghost use Rattle.std.specs.Prelude.{◌+◌, ◌*◌, ◌≤◌, length};
 ghost use Rattle.text.specs.Numbers.{number_room};
 
 use book::Entry;
-use text::{put_bytes, put_number};
+use text::Buffer;
 
-const SPACE: u8 = 32;
+// The bytes of a block of output.
+pub const BLOCK: usize = 65536;
 
-const NEWLINE: u8 = 10;
+pub type Out = Buffer<BLOCK>;
+
+const SPACE: u8 = b' ';
+
+const NEWLINE: u8 = b'\n';
 
 // The byte after a number: a line end after the last.
 fn after(passed: usize, count: usize) -> u8 {
@@ -17,16 +22,15 @@ fn after(passed: usize, count: usize) -> u8 {
 // The most numbers of a line: three, and the words lent to an entry.
 pub const NUMBERS: usize = 258;
 
-// Puts a name and the first numbers as a line; answers how many bytes it takes.
-pub fn put_line(out: &mut [u8], name: &[u8], numbers: &[u64; NUMBERS], count: usize) -> usize
-    requires { (count ≤ 258) × (length name.now + count * number_room ≤ length out.old) }
-    ensures { result ≤ length name.now + count * number_room }
+// Puts a name and numbers as the one line of the output.
+pub fn put_line(out: &mut Out, name: &[u8], numbers: &[u64])
+    requires { length name.now + length numbers.now * number_room ≤ 65536 }
 {
-    let mut next = put_bytes(out, 0, name);
-    for i in 0..count {
-        next = put_number(out, next, numbers[i], after(i + 1, count));
+    out.clear();
+    out.put(name);
+    for (i, number) in numbers.iter().enumerate() {
+        out.put_number(*number, after(i + 1, numbers.len()));
     }
-    next
 }
 
 // The most fields of an entry.

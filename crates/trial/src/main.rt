@@ -9,61 +9,53 @@ mod makings;
 ghost use Rattle.book.specs.rules.Valid.{Valid};
 
 use book::Book;
-use calling::{BLOCK, call};
+use calling::call;
 use calls::{call_at, is_stop, length_of};
+use lines::Out;
 use std::io::{Read, Write};
-use text::{is_written, keep, part, read_more, unread, unwritten, write_out};
+use text::{Buffer, Input, Output};
 
 // The bytes that are kept of the input: more than the longest call.
 const CALLS: usize = 131072;
-
-// The most turns: as many as there are numbers of 64 bits but one.
-const TURNS: u64 = 0xffff_ffff_ffff_ffff;
 
 // Makes the calls one after the other, and writes out each line before the next call.
 fn call_all<R: Read, W: Write>(
     from: &mut R,
     to: &mut W,
     first: Book,
-    bytes: &mut [u8; CALLS],
-    out: &mut [u8; BLOCK],
+    bytes: &mut Buffer<CALLS>,
+    out: &mut Out,
 )
     requires { Valid first }
 {
     let mut b = first;
-    let mut input = unread();
-    let mut output = unwritten();
-    let mut filled: usize = 0;
+    let mut input = Input::unread();
+    let mut output = Output::unwritten();
     let mut place: usize = 0;
-    let mut turns: u64 = 0;
-    while turns < TURNS {
-        turns += 1;
-        let c = call_at(part(bytes, place, filled));
+    // As many turns as there are numbers of 64 bits but one.
+    for _turn in 0..u64::MAX {
+        let s = &bytes.bytes()[place..];
+        let c = call_at(s);
         let length = length_of(c);
         if length == 0 {
             if is_stop(c) {
                 break;
             }
-            filled = keep(bytes, place, filled);
+            bytes.drop_front(place);
             place = 0;
+            let kept = bytes.len();
             // Never so: what is kept is a part of a call, and a call is shorter than the room.
-            if CALLS <= filled {
+            if CALLS <= kept {
                 break;
             }
-            let r = read_more(from, input, bytes, filled);
-            if r.filled == filled {
+            input.read_more(from, bytes);
+            if bytes.len() == kept {
                 break;
             }
-            filled = r.filled;
-            let i = r.input;
-            input = i;
         } else {
-            let r = call(b, c, part(bytes, place, filled), out);
-            let left = r.book;
-            b = left;
-            let w = write_out(to, output, out, r.wrote);
-            output = w;
-            if !is_written(output) {
+            b = call(b, c, s, out);
+            output.write_out(to, out.bytes());
+            if !output.is_written() {
                 break;
             }
             place += length;
@@ -72,11 +64,9 @@ fn call_all<R: Read, W: Write>(
 }
 
 fn main(rt: HostRuntime) {
-    let mut bytes = [0u8; CALLS];
-    let mut out = [0u8; BLOCK];
-    let m = book::separate(0, book::market());
-    let made = book::new(m);
-    let first = made.book;
+    let mut bytes = Buffer::new();
+    let mut out = Buffer::new();
+    let first = book::new(book::separate(0, book::market())).book;
     call_all(
         &mut rt.stdin(),
         &mut rt.stdout(),

@@ -1,11 +1,8 @@
-use Rattle.std.proofs.Common.{eq-eqb, ne_eqb}
-use Rattle.lister.specs.inner.Runs.{last_paid}
+use Rattle.lister.proofs.LineLaws.{last_none, last_some}
 use Rattle.lister.proofs.runs.last_paid.Goals as goal
 
-pub returns-then-count-eq0 : goal.returns-then-count-eq0
-unfolding last_paid
-returns-then-count-eq0 c = simp (eq-eqb _ _ c.if-count-eq0.true)
+pub returns-in_default : goal.returns-in_default
+returns-in_default c = last_none c.args.lines.now c.in_default.len_below
 
-pub returns : goal.returns
-unfolding last_paid
-returns c = simp (ne_eqb _ _ c.if-count-eq0.false)
+pub returns-in-len2-up : goal.returns-in-len2-up
+returns-in-len2-up c = last_some c.args.lines.now c.requires c.in-len2-up.len_at_least

@@ -1,38 +1,40 @@
-use Rattle.std.proofs.Common.{◌≡◌, length, arith, rules}
-use Rattle.lister.proofs.RunTurns.{begins, returned, few_lines, less, ends, goes, stays}
+use Rattle.std.proofs.Common.{◌≡◌, length, length-take-le, refl, arith, rules}
+use Rattle.lister.proofs.RunTurns.{returned, few_lines, three_lines, less, ends, goes, stays}
 use Rattle.lister.proofs.runs.list_runs.Goals as goal
 
-pub loop-wrote-init : goal.loop-wrote-init
-loop-wrote-init c = let p = c.requires in begins _ _ _ _ _ _ p.valid p.within p.agree
-
-pub run-r-requires : goal.run-r-requires
-run-r-requires c = c.loop-wrote.invariant.valid
-
-pub put_run-wrote-requires : goal.put_run-wrote-requires
-put_run-wrote-requires c =
-    let l = c.loop-wrote in
+pub shared_ref_as_front-put_run : goal.shared_ref_as_front-put_run
+shared_ref_as_front-put_run c =
+    let l = c.loop-out in
     let size : length l.lines ≡ 1536 = search rules in
-    (c.loop-wrote-test.true, few_lines _ _ _ _ _ l.invariant l.lines size c.run-r.ensures)
+    few_lines _ _ _ _ l.invariant.0 l.lines size c.run-place.ensures
 
-pub loop-wrote-smaller : goal.loop-wrote-smaller
-loop-wrote-smaller c =
-    let l = c.loop-wrote in
+pub put_run-requires : goal.put_run-requires
+put_run-requires c =
+    let l = c.loop-out in
+    let wrote = c.run-place.result.wrote in
     let size : length l.lines ≡ 1536 = search rules in
-    less _ _ _ _ _ l.invariant l.lines size c.run-r.ensures c.if-count-eq0.false
+    let after : length c.run-place.new.lines ≡ 1536 = search rules in
+    let few = few_lines _ _ _ _ l.invariant.0 l.lines size c.run-place.ensures in
+    let three = three_lines _ _ _ _ l.invariant.0 l.lines size c.run-place.ensures in
+    let part = length-take-le wrote c.run-place.new.lines (omega (arith, few, after)) in
+    (omega (arith, c.len.ensures.count, c.loop-out-test.true), omega (arith, part, few), omega (arith, part, three))
 
-pub loop-wrote-preserved : goal.loop-wrote-preserved
-loop-wrote-preserved c =
-    let l = c.loop-wrote in
+pub loop-out-smaller : goal.loop-out-smaller
+loop-out-smaller c =
+    let l = c.loop-out in
     let size : length l.lines ≡ 1536 = search rules in
-    goes _ _ _ _ _ l.invariant l.lines size c.run-r.ensures c.if-count-eq0.false c.put_run-wrote.ensures.puts c.put_run-wrote.ensures.upper_bound
+    less _ _ _ _ l.invariant.0 l.lines size c.run-place.ensures c.if-wrote-eq0.false
 
-pub returns-after-loop-wrote : goal.returns-after-loop-wrote
-returns-after-loop-wrote c = returned _ _ _ c.loop-wrote.invariant (λ h. absurd (omega (arith, h, c.loop-wrote-test.false)))
-
-pub returns-then-count-eq0 : goal.returns-then-count-eq0
-returns-then-count-eq0 c =
-    let l = c.loop-wrote in
+pub loop-out-preserved : goal.loop-out-preserved
+loop-out-preserved c =
+    let l = c.loop-out in
     let size : length l.lines ≡ 1536 = search rules in
-    returned _ _ _
-    (stays _ _ _ _ _ l.invariant l.lines size c.run-r.ensures c.if-count-eq0.true)
-    (λ _. ends _ _ _ _ _ l.invariant l.lines size c.run-r.ensures c.if-count-eq0.true)
+    (goes _ _ _ _ l.invariant.0 l.lines size c.run-place.ensures c.if-wrote-eq0.false refl c.put_run.ensures, l.invariant.1)
+
+pub returns-then-wrote-eq0 : goal.returns-then-wrote-eq0
+returns-then-wrote-eq0 c =
+    let l = c.loop-out in
+    let size : length l.lines ≡ 1536 = search rules in
+    returned _ _ l.invariant.1
+    (stays _ _ _ _ l.invariant.0 l.lines size c.run-place.ensures c.if-wrote-eq0.true)
+    (λ _. ends _ _ _ _ l.invariant.0 l.lines size c.run-place.ensures c.if-wrote-eq0.true)

@@ -1,11 +1,11 @@
-use Rattle.std.proofs.Common.{◌-◌, length}
+use Rattle.std.proofs.Common.{◌≡◌, ◌-◌, length}
+use Rattle.lister.specs.declared.blocks.Next.TheVariants.{Again}
 use Rattle.lister.proofs.RunTurns.{Going}
 use Rattle.lister.proofs.runs.list_runs.Given as goal
 
-abbrev pub invariant-loop-wrote : goal.invariant-loop-wrote
-invariant-loop-wrote l =
-    Going l.feed l.initial.number l.initial.b l.initial.place l.initial.out l.out l.words l.b l.number l.place l.wrote
+abbrev pub invariant-loop-out : goal.invariant-loop-out
+invariant-loop-out l =
+    Going l.feed l.initial.s.number l.initial.s.book l.initial.s.place l.out l.words l.s.book l.s.number l.s.place × (l.s.next ≡ Again)
 
-abbrev pub decreases-loop-wrote : goal.decreases-loop-wrote
-decreases-loop-wrote l =
-    length l.feed - l.place
+abbrev pub decreases-loop-out : goal.decreases-loop-out
+decreases-loop-out l = length l.feed - l.s.place

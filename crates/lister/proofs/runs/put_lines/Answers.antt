@@ -1,30 +1,36 @@
-use Rattle.std.proofs.Common.{◌≡◌, ◌+◌, ◌%◌, ◌^◌, add-one, arith, rules}
-use Rattle.text.proofs.PutLaws.{puts_then, puts_none, puts_length}
+use Rattle.std.proofs.Common.{◌≡◌, ◌+◌, ◌*◌, ◌%◌, ◌^◌, ℕ, suc, [], ◌∷◌, ◌++◌, length, get_or, append-nil, append_assoc, add-one, sym, ap, ◌∙◌, arith, rules}
+use Rattle.std.proofs.lemmas.List.{length_push}
+use Rattle.std.specs.Slice.Iter.{chunks_exact_rest}
 use Rattle.lister.specs.inner.Runs.{lines_to}
-use Rattle.lister.proofs.LineLaws.{line_mod}
+use Rattle.lister.proofs.LineLaws.{line_mod, chunk_word, chunk_rest}
 use Rattle.lister.proofs.runs.put_lines.Goals as goal
 
-pub loop-i-init : goal.loop-i-init
+pub loop-line-init : goal.loop-line-init
 unfolding lines_to
-loop-i-init c = (search rules, puts_none _ _, search rules)
+loop-line-init c = (omega (arith, c.ranges.first.fits), sym (append-nil c.args.out.now), omega arith, search rules, search rules, search rules, tt)
 
-pub put_line-next-requires : goal.put_line-next-requires
-put_line-next-requires c = let l = c.loop-i in omega (arith, puts_length l.invariant.1, c.loop-i-test.true)
-
-pub loop-i-preserved : goal.loop-i-preserved
+pub loop-line-preserved : goal.loop-line-preserved
 unfolding lines_to
-loop-i-preserved c =
-    let l = c.loop-i in
-    let p = c.put_line-next in
-    let number = c.args.first + l.i in
-    let m : number % 2 ^ 64 % 2 ^ 64 ≡ number % 2 ^ 64 = omega arith in
-    (search rules, rw (add-one l.i) (puts_then l.invariant.1 (rw (line_mod (number % 2 ^ 64) number _ _ _ m) at p.ensures.puts)), omega (arith, p.ensures.upper_bound))
-
-pub shape_of-out : goal.shape_of-out
-shape_of-out c = puts_length c.loop-i.invariant.1
-
-pub returns-clause-puts : goal.returns-clause-puts
-returns-clause-puts c =
-    let l = c.loop-i in
-    let e : l.i ≡ c.args.count = omega arith in
-    rw e at l.invariant.1
+loop-line-preserved c =
+    let l = c.loop-line in
+    let n = length l.yielded in
+    let lines = c.args.lines.now in
+    let x = c.in-Some.line.now in
+    let s = c.in-Some.ensures.steps in
+    let three : length x ≡ 3 = s.1.1 ∙ l.invariant.4 in
+    let before = chunks_exact_rest l.line-iterator in
+    let after = chunks_exact_rest c.next.new.self in
+    let word = chunk_word lines before x after n l.invariant.3 s.1.0 three in
+    let first_word : get_or x 0 0 ≡ get_or lines (n * 3) 0 = word 0 (omega arith) ∙ ap (λ (k : ℕ). get_or lines k 0) (omega arith) in
+    let m : l.number % 2 ^ 64 ≡ (c.args.first + n) % 2 ^ 64 = omega (arith, l.invariant.0) in
+    let more : length (l.yielded ++ c.in-Some.line ∷ []) ≡ suc n = length_push l.yielded c.in-Some.line ∙ add-one n in
+    let p = rw (first_word, word 1 (omega arith), word 2 (omega arith), line_mod l.number (c.args.first + n) (get_or lines (n * 3) 0) (get_or lines (n * 3 + 1) 0) (get_or lines (n * 3 + 2) 0) m) at c.put_line.ensures.puts in
+    rw more (
+      omega (arith, l.invariant.0),
+      simp (p, l.invariant.1, append_assoc),
+      omega (arith, c.put_line.ensures.upper_bound, l.invariant.2),
+      chunk_rest lines before x after n l.invariant.3 s.1.0 three,
+      s.0 ∙ l.invariant.4,
+      search rules,
+      tt,
+    )

@@ -12,8 +12,8 @@ limited_at-requires c = rw c.in-MakeLimited.is at c.requires.1
 pub apply-requires : goal.apply-requires
 apply-requires c = (c.requires.0, rw c.in-Apply.is at c.requires.1)
 
-pub read-next-requires : goal.read-next-requires
-read-next-requires c = rw c.in-Read.is at c.requires.1
+pub read-requires : goal.read-requires
+read-requires c = rw c.in-Read.is at c.requires.1
 
-pub write-next-requires : goal.write-next-requires
-write-next-requires c = rw c.in-Write.is at c.requires.1
+pub write-requires : goal.write-requires
+write-requires c = rw c.in-Write.is at c.requires.1

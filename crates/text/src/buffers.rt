@@ -1,0 +1,102 @@
+// Bytes one behind the other, in room of a fixed size.
+ghost use Rattle.std.specs.Prelude.{◌≡◌, ◌+◌, ◌<◌, ◌≤◌, List, [], ◌∷◌, ◌++◌, ℕ, take, drop, length};
+
+use std::io;
+use std::io::Read;
+use std::marker::Model;
+
+// At most N bytes: the first `len` of the room.
+#[derive(Drop)]
+pub struct Buffer<const N: usize> {
+    room: [u8; N],
+    len: usize,
+}
+
+// Clauses see the bytes that were put.
+impl<const N: usize> Model for Buffer<N> {
+    ghost Value = { List ℕ };
+
+    ghost view = { λ b. take b.len b.room };
+
+    ghost invariant = { λ b. b.len ≤ N };
+}
+
+impl<const N: usize> Buffer<N> {
+    ghost use Rattle.text.specs.Streams.{came};
+
+    // A buffer of no byte.
+    pub fn new() -> Self
+        ensures { result ≡ [] }
+    {
+        Buffer {
+            room: [0; N],
+            len: 0,
+        }
+    }
+
+    // How many bytes there are.
+    pub fn len(&self) -> usize
+        ensures count { result ≡ length self.now }
+        ensures upper_bound { result ≤ N }
+    {
+        self.len
+    }
+
+    // The bytes.
+    pub fn bytes(&self) -> &[u8]
+        ensures { result.now ≡ self.now }
+    {
+        &self.room[..self.len]
+    }
+
+    // Takes all bytes away.
+    pub fn clear(&mut self)
+        ensures { self.new ≡ [] }
+    {
+        self.len = 0;
+    }
+
+    // Puts one byte behind those there are.
+    pub fn put_byte(&mut self, byte: u8)
+        requires { length self.old < N }
+        ensures { self.new ≡ self.old ++ byte ∷ [] }
+    {
+        self.room[self.len] = byte;
+        self.len += 1;
+    }
+
+    // Puts all bytes of a slice behind those there are.
+    pub fn put(&mut self, bytes: &[u8])
+        requires { length self.old + length bytes.now ≤ N }
+        ensures { self.new ≡ self.old ++ bytes.now }
+    {
+        let start = self.len;
+        let end = start + bytes.len();
+        let room = &mut self.room[..];
+        room[start..end].copy_from_slice(bytes);
+        self.len = end;
+    }
+
+    // Takes the first bytes away; those behind them then stand in front.
+    pub fn drop_front(&mut self, count: usize)
+        requires { count ≤ length self.old }
+        ensures { self.new ≡ drop count self.old }
+    {
+        self.room.copy_within(count..self.len, 0);
+        self.len -= count;
+    }
+
+    // Reads once, behind the bytes there are; answers what the reader did.
+    pub fn read_from<R: Read>(&mut self, from: &mut R) -> io::Result<usize>
+        ensures same { take (length self.old) self.new ≡ self.old }
+        ensures count { length self.new ≡ length self.old + came result }
+    {
+        let filled = self.len;
+        let room = &mut self.room[..];
+        let got = from.read(&mut room[filled..]);
+        if let Ok(more) = got {
+            self.len += more;
+        }
+        got
+    }
+}
