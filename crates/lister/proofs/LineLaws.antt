@@ -1,4 +1,4 @@
--- The lines of a run: the first of them and those after it, and lines that stand at the front of other words.
+-- The lines of a run: the first of them and those after it, the last of its entries, and its words three by three.
 use Rattle.std.proofs.Common.{◌≡◌, ℕ, zero, suc, ◌+◌, ◌-◌, ◌*◌, ◌/◌, ◌%◌, ◌^◌, ◌<◌, ◌≤◌, List, [], ◌∷◌, ◌++◌, length, get_or, drop, sym, refl, ap, ◌∙◌, ⊎_elim, append_assoc, append-nil, add-zero, arith, eq-eqb, ne_eqb}
 use lib.ListN.{get_or-append}
 use lib.Seq.{drop_at, get_or-drop}

@@ -26,9 +26,9 @@ use Rattle.lister.proofs.BlockTurns.{ends_here, ends_always}
 use Rattle.lister.proofs.BeginLaws.{told_as}
 use Rattle.lister.proofs.PieceLaws.{stands_first, stands_fed, stands_listed, stands_now, stands_ended, stands_closed}
 
--- where the loop stands before the bytes that are there, at the start of a turn of this number; a turn lists an entry, reads a
--- byte or finds the end of the input
-pub record Looping (limits : Limits) (feed words : List ℕ) (s : Standing) (i : input.Input) (o : output.Output) (turn : ℕ) : Type 0 where
+-- where the loop stands before the bytes that are there, after so many turns; a turn lists an entry, reads a byte or finds
+-- the end of the input
+pub record Looping (limits : Limits) (feed words : List ℕ) (s : Standing) (i : input.Input) (o : output.Output) (turns : ℕ) : Type 0 where
   pub seen : List ℕ
   pub put : List ℕ
   pub seen_counted : i.total ≡ min (length seen) most
@@ -37,12 +37,12 @@ pub record Looping (limits : Limits) (feed words : List ℕ) (s : Standing) (i :
   pub ready : Ready feed s words
   pub written : o.all ≡ true
   pub not_failed : is_failed i.last ≡ false
-  pub few : turn + length (drop s.place feed) ≤ 2 * length seen + 1 + cond (is_ended i.last) 1 0
+  pub few : turns + length (drop s.place feed) ≤ 2 * length seen + cond (is_ended i.last) 1 0
 
 pub loop_begins : (limits : Limits) {i : input.Input} {o : output.Output} {feed words : List ℕ} {b : Book} (s : Standing)
     → s ≡ record { book = b; number = 1; place = 1; next = Again } → b ≡ book_for limits (get_or feed 0 0) → Begun i o feed words
-    → Looping limits feed words s i o 1
-loop_begins limits {i} {o} {feed} {words} {b} z q made g = subst (λ (x : Standing). Looping limits feed words x i o 1) (sym q) (record {
+    → Looping limits feed words s i o 0
+loop_begins limits {i} {o} {feed} {words} {b} z q made g = subst (λ (x : Standing). Looping limits feed words x i o 0) (sym q) (record {
   seen = feed;
   put = header;
   seen_counted = g.read_counted;
@@ -64,9 +64,9 @@ loop_begins limits {i} {o} {feed} {words} {b} z q made g = subst (λ (x : Standi
     split = drop-cons feed 0 0 (omega (arith, g.some))
 
 -- the turns are used up
-pub loop_turns : {limits : Limits} {feed words : List ℕ} {s : Standing} {i : input.Input} {o : output.Output} {turn : ℕ} → Looping limits feed words s i o turn
-    → turn ≡ most + 1 → Session limits (record { why = Turns; turns = most; input = i; output = o })
-loop_turns {limits} {feed} {words} {s} {i} {o} {turn} g e = record {
+pub loop_turns : {limits : Limits} {feed words : List ℕ} {s : Standing} {i : input.Input} {o : output.Output} {turns : ℕ} → Looping limits feed words s i o turns
+    → turns ≡ most → Session limits (record { why = Turns; turns = most; input = i; output = o })
+loop_turns {limits} {feed} {words} {s} {i} {o} {turns} g e = record {
   seen = g.seen;
   put = g.put;
   seen_counted = g.seen_counted;
@@ -76,23 +76,23 @@ loop_turns {limits} {feed} {words} {s} {i} {o} {turn} g e = record {
   few_turns = few_end (is_ended i.last) g.few;
 }
   where
-    few_end : (t : Bool) → turn + length (drop s.place feed) ≤ 2 * length g.seen + 1 + cond t 1 0 → most ≤ 2 * length g.seen + 2
+    few_end : (t : Bool) → turns + length (drop s.place feed) ≤ 2 * length g.seen + cond t 1 0 → most ≤ 2 * length g.seen + 2
     few_end true h = omega (arith, h, e)
     few_end false h = omega (arith, h, e)
 
 -- a turn so far: a block was listed, and what was put of it handed over
-pub record Turned (limits : Limits) (feed words : List ℕ) (z : Standing) (i : input.Input) (turn : ℕ) (w : output.Output) : Type 0 where
+pub record Turned (limits : Limits) (feed words : List ℕ) (z : Standing) (i : input.Input) (turns : ℕ) (w : output.Output) : Type 0 where
   pub start : Standing
   pub lent_words : List ℕ
   pub before : output.Output
   pub out : List ℕ
-  pub going : Looping limits feed lent_words start i before turn
+  pub going : Looping limits feed lent_words start i before turns
   pub block : BlockListed feed start (is_ended i.last) z out words
   pub handed : w.total ≡ min (before.total + length out) most
 
-pub turned : {limits : Limits} {feed words words' out listed handed : List ℕ} {a z : Standing} {i : input.Input} {turn : ℕ} {o w : output.Output} {ended : Bool}
-    → Looping limits feed words a i o turn → listed ≡ feed → handed ≡ out → ended ≡ is_ended i.last → BlockListed listed a ended z out words'
-    → w.total ≡ min (o.total + length handed) most → Turned limits feed words' z i turn w
+pub turned : {limits : Limits} {feed words words' out listed handed : List ℕ} {a z : Standing} {i : input.Input} {turns : ℕ} {o w : output.Output} {ended : Bool}
+    → Looping limits feed words a i o turns → listed ≡ feed → handed ≡ out → ended ≡ is_ended i.last → BlockListed listed a ended z out words'
+    → w.total ≡ min (o.total + length handed) most → Turned limits feed words' z i turns w
 turned {words = words} {words' = words'} {out = out} {a = a} {z = z} {o = o} g l h e b c = record {
   start = a;
   lent_words = words;
@@ -103,11 +103,11 @@ turned {words = words} {words' = words'} {out = out} {a = a} {z = z} {o = o} g l
   handed = rw h at c;
 }
 
-module _ {limits : Limits} {feed words' : List ℕ} {z : Standing} {i : input.Input} {turn : ℕ} {w : output.Output} (x : Turned limits feed words' z i turn w) where
+module _ {limits : Limits} {feed words' : List ℕ} {z : Standing} {i : input.Input} {turns : ℕ} {w : output.Output} (x : Turned limits feed words' z i turns w) where
   abbrev a : Standing
   a = x.start
 
-  abbrev g : Looping limits feed x.lent_words x.start i x.before turn
+  abbrev g : Looping limits feed x.lent_words x.start i x.before turns
   g = x.going
 
   abbrev block : BlockListed feed x.start (is_ended i.last) z x.out words'
@@ -119,12 +119,12 @@ module _ {limits : Limits} {feed words' : List ℕ} {z : Standing} {i : input.In
   counted : w.total ≡ min (length put) most
   counted = omega (arith, x.handed, g.put_counted, length-append g.put x.out)
 
-  few_end : (t : Bool) → turn + length (drop a.place feed) ≤ 2 * length g.seen + 1 + cond t 1 0 → turn ≤ 2 * length g.seen + 2
+  few_end : (t : Bool) → turns + length (drop a.place feed) ≤ 2 * length g.seen + cond t 1 0 → turns + 1 ≤ 2 * length g.seen + 2
   few_end true h = omega (arith, h)
   few_end false h = omega (arith, h)
 
   -- the listing ends here
-  ended : (why : End) → Listed limits why g.seen put → Told why i w turn → Session limits (record { why = why; turns = turn; input = i; output = w })
+  ended : (why : End) → Listed limits why g.seen put → Told why i w (turns + 1) → Session limits (record { why = why; turns = turns + 1; input = i; output = w })
   ended why l t = record {
     seen = g.seen;
     put = put;
@@ -140,7 +140,7 @@ module _ {limits : Limits} {feed words' : List ℕ} {z : Standing} {i : input.In
       (subst (λ (n : Next). Goes (is_ended i.last) n (length x.out) (stand_in feed a) x.out (stand_in feed z)) d block.goes)
 
   -- where not all was written, what was put is the front of the listing of the bytes read
-  pub turn_not_written : w.all ≡ false → Session limits (record { why = NotWritten; turns = turn; input = i; output = w })
+  pub turn_not_written : w.all ≡ false → Session limits (record { why = NotWritten; turns = turns + 1; input = i; output = w })
   turn_not_written e = ended NotWritten (front (is_ended i.last) z.next block.goes) e
     where
       front : (t : Bool) (next : Next) → Goes t next (length x.out) (stand_in feed a) x.out (stand_in feed z) → (l : List ℕ) × (listing limits g.seen ≡ put ++ l)
@@ -150,16 +150,16 @@ module _ {limits : Limits} {feed words' : List ℕ} {z : Standing} {i : input.In
       front t Done h = ([], stands_ended g.stands (ends_here h) ∙ sym (append-nil put))
 
   -- the listing is whole
-  pub turn_done : z.next ≡ Done → w.all ≡ true → Session limits (record { why = why_ended i.last; turns = turn; input = i; output = w })
+  pub turn_done : z.next ≡ Done → w.all ≡ true → Session limits (record { why = why_ended i.last; turns = turns + 1; input = i; output = w })
   turn_done d e = by_last i.last refl
     where
-      by_last : (l : Last) → i.last ≡ l → Session limits (record { why = why_ended i.last; turns = turn; input = i; output = w })
-      by_last More q = told_as i w turn Unread (ap why_ended q) (ended Unread (stands_closed g.stands (ends_always (goes_as Done d false (ap is_ended q)) refl)) (q, e))
-      by_last Ended q = told_as i w turn Input (ap why_ended q) (ended Input (stands_ended g.stands (ends_here (goes_as Done d true (ap is_ended q)))) (q, e))
+      by_last : (l : Last) → i.last ≡ l → Session limits (record { why = why_ended i.last; turns = turns + 1; input = i; output = w })
+      by_last More q = told_as i w (turns + 1) Unread (ap why_ended q) (ended Unread (stands_closed g.stands (ends_always (goes_as Done d false (ap is_ended q)) refl)) (q, e))
+      by_last Ended q = told_as i w (turns + 1) Input (ap why_ended q) (ended Input (stands_ended g.stands (ends_here (goes_as Done d true (ap is_ended q)))) (q, e))
       by_last Failed q = absurd (true≢false (sym (ap is_failed q) ∙ g.not_failed))
 
   -- there is more to list in the block
-  pub turn_again : z.next ≡ Again → w.all ≡ true → Looping limits feed words' z i w (turn + 1)
+  pub turn_again : z.next ≡ Again → w.all ≡ true → Looping limits feed words' z i w (turns + 1)
   turn_again d e =
       let h = goes_as Again d (is_ended i.last) refl in
       record {
@@ -211,11 +211,11 @@ module _ {limits : Limits} {feed words' : List ℕ} {z : Standing} {i : input.In
       counted_in : r.total ≡ min (length (g.seen ++ piece)) most
       counted_in = omega (arith, f.counted, g.seen_counted, piece_size, length-append g.seen piece)
 
-      few_before : turn + length (drop a.place feed) ≤ 2 * length g.seen + 1
-      few_before = let h = subst (λ (t : Bool). turn + length (drop a.place feed) ≤ 2 * length g.seen + 1 + cond t 1 0) short.0 g.few in omega (arith, h)
+      few_before : turns + length (drop a.place feed) ≤ 2 * length g.seen
+      few_before = let h = subst (λ (t : Bool). turns + length (drop a.place feed) ≤ 2 * length g.seen + cond t 1 0) short.0 g.few in omega (arith, h)
 
       -- the read failed, and brought nothing
-      pub turn_not_read : is_failed r.last ≡ true → Session limits (record { why = NotRead; turns = turn; input = r; output = w })
+      pub turn_not_read : is_failed r.last ≡ true → Session limits (record { why = NotRead; turns = turns + 1; input = r; output = w })
       turn_not_read h =
           let q = failed_of r.last h in
           let none : length feed'' - length feed' ≡ 0 = subst (λ (l : Last). Came l (length feed'' - length feed')) q f.came in
@@ -230,7 +230,7 @@ module _ {limits : Limits} {feed words' : List ℕ} {z : Standing} {i : input.In
           }
 
       -- there are more bytes, or the input has ended
-      pub turn_read : is_failed r.last ≡ false → Looping limits feed'' words' now r w (turn + 1)
+      pub turn_read : is_failed r.last ≡ false → Looping limits feed'' words' now r w (turns + 1)
       turn_read h = record {
         seen = g.seen ++ piece;
         put = put;
@@ -243,7 +243,7 @@ module _ {limits : Limits} {feed words' : List ℕ} {z : Standing} {i : input.In
         few = few_now r.last h f.came;
       }
         where
-          few_now : (l : Last) → is_failed l ≡ false → Came l (length feed'' - length feed') → turn + 1 + length feed'' ≤ 2 * length (g.seen ++ piece) + 1 + cond (is_ended l) 1 0
+          few_now : (l : Last) → is_failed l ≡ false → Came l (length feed'' - length feed') → turns + 1 + length feed'' ≤ 2 * length (g.seen ++ piece) + cond (is_ended l) 1 0
           few_now More q m = omega (arith, m, few_before, short.1.1, piece_size, ap length whole, length-append (drop z.place feed) piece, length-append g.seen piece)
           few_now Ended q m = omega (arith, m, few_before, short.1.1, piece_size, ap length whole, length-append (drop z.place feed) piece, length-append g.seen piece)
           few_now Failed q m = absurd (true≢false q)

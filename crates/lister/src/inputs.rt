@@ -34,18 +34,17 @@ fn list_blocks<R: Read, W: Write>(
     from: &mut R,
     to: &mut W,
     limits: Limits,
-    begun: Input,
-    headed: Output,
+    mut input: Input,
+    mut output: Output,
     feed: &mut Block,
     work: &mut Work,
 ) -> Ending
-    requires { Begun begun headed feed.old work.old.words }
+    requires { Begun input output feed.old work.old.words }
     ensures { Session limits result }
 {
-    let mut input = begun;
-    let mut output = headed;
     let mut s = Standing::at_first(first_book(limits, feed.bytes()[0]));
-    for turns in 1..=TURNS {
+    for done in 0..TURNS {
+        let turns = done + 1;
         s = list_block(s, feed.bytes(), input.has_ended(), work);
         output.write_out(to, work.out.bytes());
         if !output.is_written() {

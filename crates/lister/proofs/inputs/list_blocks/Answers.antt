@@ -1,39 +1,39 @@
-use Rattle.std.proofs.Common.{◌+◌, length, List, ℕ, get_or, sym, ap, ◌∙◌, arith}
+use Rattle.std.proofs.Common.{length, List, ℕ, get_or, sym, ap, ◌∙◌, arith}
 use Rattle.lister.specs.Listing.{book_for}
-use Rattle.lister.proofs.SessionLaws.{Looping, loop_begins, loop_turns, turned, turn_not_written, turn_done, turn_again, left_more, left_few, turn_not_read, turn_read}
+use Rattle.lister.proofs.SessionLaws.{loop_begins, loop_turns, turned, turn_not_written, turn_done, turn_again, left_more, left_few, turn_not_read, turn_read}
 use Rattle.lister.proofs.inputs.list_blocks.Goals.{in-Again, in-Read+else-has_failed}
 use Rattle.lister.proofs.inputs.list_blocks.Goals as goal
 
-pub loop-turns-init : goal.loop-turns-init
-loop-turns-init g c =
+pub loop-done-init : goal.loop-done-init
+loop-done-init g c =
     loop_begins c.args.limits _ c.at_first-s.ensures (c.first_book.ensures ∙ ap (λ (l : List ℕ). book_for c.args.limits (get_or l 0 0)) c.bytes.ensures) c.requires
 
 pub returns-then-not-is_written : goal.returns-then-not-is_written
 returns-then-not-is_written g c =
-    let after = turned c.loop-turns.invariant c.bytes-in-loop-turns.ensures c.bytes-in-loop-turns-2.ensures c.has_ended.ensures c.list_block-s.ensures c.write_out.ensures in
+    let after = turned c.loop-done.invariant c.bytes-in-loop-done.ensures c.bytes-in-loop-done-2.ensures c.has_ended.ensures c.list_block-s.ensures c.write_out.ensures in
     turn_not_written after (sym c.is_written.ensures ∙ c.if-not-is_written.true)
 
 pub read_more-requires : goal.read_more-requires
 read_more-requires g c =
-    let after = turned c.loop-turns.invariant c.bytes-in-loop-turns.ensures c.bytes-in-loop-turns-2.ensures c.has_ended.ensures c.list_block-s.ensures c.write_out.ensures in
+    let after = turned c.loop-done.invariant c.bytes-in-loop-done.ensures c.bytes-in-loop-done-2.ensures c.has_ended.ensures c.list_block-s.ensures c.write_out.ensures in
     let written = sym c.is_written.ensures ∙ c.if-not-is_written.false in
     (omega arith, (left_more after c.in-Read.is written, omega (arith, ap length c.drop_front.ensures, left_few after c.in-Read.is written)))
 
 pub returns-then-has_failed : goal.returns-then-has_failed
 returns-then-has_failed g c =
-    let after = turned c.loop-turns.invariant c.bytes-in-loop-turns.ensures c.bytes-in-loop-turns-2.ensures c.has_ended.ensures c.list_block-s.ensures c.write_out.ensures in
+    let after = turned c.loop-done.invariant c.bytes-in-loop-done.ensures c.bytes-in-loop-done-2.ensures c.has_ended.ensures c.list_block-s.ensures c.write_out.ensures in
     let written = sym c.is_written.ensures ∙ c.if-not-is_written.false in
     turn_not_read after c.in-Read.is written c.drop_front.ensures c.read_more.ensures (sym c.has_failed.ensures ∙ c.if-has_failed.true)
 
 pub returns-in-Done : goal.returns-in-Done
 returns-in-Done g c =
-    let after = turned c.loop-turns.invariant c.bytes-in-loop-turns.ensures c.bytes-in-loop-turns-2.ensures c.has_ended.ensures c.list_block-s.ensures c.write_out.ensures in
+    let after = turned c.loop-done.invariant c.bytes-in-loop-done.ensures c.bytes-in-loop-done-2.ensures c.has_ended.ensures c.list_block-s.ensures c.write_out.ensures in
     let written = sym c.is_written.ensures ∙ c.if-not-is_written.false in
     rw c.why_ended-why.ensures (turn_done after c.in-Done.is written)
 
-pub loop-turns-preserved : goal.loop-turns-preserved
-loop-turns-preserved g c =
-    let after = turned c.loop-turns.invariant c.bytes-in-loop-turns.ensures c.bytes-in-loop-turns-2.ensures c.has_ended.ensures c.list_block-s.ensures c.write_out.ensures in
+pub loop-done-preserved : goal.loop-done-preserved
+loop-done-preserved g c =
+    let after = turned c.loop-done.invariant c.bytes-in-loop-done.ensures c.bytes-in-loop-done-2.ensures c.has_ended.ensures c.list_block-s.ensures c.write_out.ensures in
     let written = sym c.is_written.ensures ∙ c.if-not-is_written.false in
     elim c.match-s.branch [
       | in-Again w ↦ rw (w.feed-is, w.s-is, w.input-is) (turn_again after w.in-Again.is written)
@@ -41,15 +41,5 @@ loop-turns-preserved g c =
           (turn_read after w.in-Read.is written w.drop_front.ensures w.read_more.ensures (sym w.has_failed.ensures ∙ w.if-has_failed.false))
     ]
 
--- after the last turn
-pub returns-after-s : goal.returns-after-s
-returns-after-s g c =
-    let after = turned c.loop-turns.invariant c.bytes-in-loop-turns.ensures c.bytes-in-loop-turns-2.ensures c.has_ended.ensures c.list_block-s.ensures c.write_out.ensures in
-    let written = sym c.is_written.ensures ∙ c.if-not-is_written.false in
-    let going : Looping c.args.limits c.match-s.feed c.list_block-s.new.work.words c.match-s.s c.match-s.input c.write_out.new.self (c.loop-turns.turns + 1) =
-    elim c.match-s.branch [
-      | in-Again w ↦ rw (w.feed-is, w.s-is, w.input-is) (turn_again after w.in-Again.is written)
-      | in-Read+else-has_failed w ↦ rw (w.feed-is, w.s-is, w.input-is)
-          (turn_read after w.in-Read.is written w.drop_front.ensures w.read_more.ensures (sym w.has_failed.ensures ∙ w.if-has_failed.false))
-    ] in
-    loop_turns going (omega arith)
+pub returns : goal.returns
+returns g c = loop_turns c.loop-done.invariant (omega arith)
