@@ -77,13 +77,13 @@ impl<const N: usize> Buffer<N> {
         self.len = end;
     }
 
-    // Takes the first bytes away; those behind them then stand in front.
+    // Takes the first bytes away, or all where there are no more; those behind them then stand in front.
     pub fn drop_front(&mut self, count: usize)
-        requires { count ≤ length self.old }
         ensures { self.new ≡ drop count self.old }
     {
-        self.room.copy_within(count..self.len, 0);
-        self.len -= count;
+        let gone = count.min(self.len);
+        self.room.copy_within(gone..self.len, 0);
+        self.len -= gone;
     }
 
     // Reads once, behind the bytes there are; answers what the reader did.

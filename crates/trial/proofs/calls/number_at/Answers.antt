@@ -1,15 +1,12 @@
 use Prim.Native.Nat.{ℕ, suc, ◌-◌, ◌^◌, ◌<◌, ◌≤◌}
 use mathlib.Core.Path.{◌≡◌}
 use native.Mathlib.Omega.{arith}
-use native.Mathlib.Nat.{pow-le-pow_right, pow-suc, le_refl, sub_self, sub-zero}
+use native.Mathlib.Nat.{pow-le-pow_right, pow-suc}
 use Rattle.trial.proofs.calls.number_at.Goals as goal
 
 -- fewer than all bytes are passed, and they make a number of 7 bytes at most
 small : {k i v : ℕ} → k ≤ 8 → 0 < i → v < 256 ^ (k - i) → v < 2 ^ 56
 small {k = k} {i = i} few h below = omega (arith, pow-le-pow_right {n = 256} (omega arith) {i = k - i} {j = 7} (omega arith))
-
-pub loop-i-init : goal.loop-i-init
-loop-i-init c = (le_refl _, rw sub_self (omega arith))
 
 pub overflow_mul-number : goal.overflow_mul-number
 overflow_mul-number c = omega (arith, small c.requires.0 c.loop-i-test.true c.loop-i.invariant.1)
@@ -24,9 +21,3 @@ loop-i-preserved c =
     let t = c.loop-i-test.true in
     let e : a.width - (l.i - 1) ≡ suc (a.width - l.i) = omega arith in
     (omega arith, rw e (omega (arith, pow-suc 256 (a.width - l.i), l.invariant.1, c.wide.ensures)))
-
-pub returns : goal.returns
-returns c =
-    let l = c.loop-i in
-    let e : l.i ≡ 0 = omega arith in
-    rw (e, sub-zero) at l.invariant.1
