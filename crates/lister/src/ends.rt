@@ -26,6 +26,20 @@ pub struct Ending {
     pub output: Output,
 }
 
+impl Ending {
+    // An ending of these parts.
+    pub fn new(why: End, turns: u64, input: Input, output: Output) -> Self
+        ensures { result ≡ record { why = why; turns = turns; input = input; output = output } }
+    {
+        Ending {
+            why,
+            turns,
+            input,
+            output,
+        }
+    }
+}
+
 // Why a listing ended, by what the last read left.
 pub fn why_ended(input: &Input) -> End
     ensures { result ≡ why_ended input.now.last }

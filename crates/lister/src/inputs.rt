@@ -48,13 +48,7 @@ fn list_blocks<R: Read, W: Write>(
         s = list_block(s, feed.bytes(), input.has_ended(), work);
         output.write_out(to, work.out.bytes());
         if !output.is_written() {
-            let why = End::NotWritten;
-            return Ending {
-                why,
-                turns,
-                input,
-                output,
-            };
+            return Ending::new(End::NotWritten, turns, input, output);
         }
         match s.next {
             Next::Again => {}
@@ -63,32 +57,13 @@ fn list_blocks<R: Read, W: Write>(
                 s.place = 0;
                 input.read_more(from, feed);
                 if input.has_failed() {
-                    let why = End::NotRead;
-                    return Ending {
-                        why,
-                        turns,
-                        input,
-                        output,
-                    };
+                    return Ending::new(End::NotRead, turns, input, output);
                 }
             }
-            Next::Done => {
-                let why = why_ended(&input);
-                return Ending {
-                    why,
-                    turns,
-                    input,
-                    output,
-                };
-            }
+            Next::Done => return Ending::new(why_ended(&input), turns, input, output),
         }
     }
-    Ending {
-        why: End::Turns,
-        turns: TURNS,
-        input,
-        output,
-    }
+    Ending::new(End::Turns, TURNS, input, output)
 }
 
 // Writes the header, reads n and lists the entries behind it.
@@ -104,26 +79,13 @@ fn list_input<R: Read, W: Write>(
 {
     let mut input = Input::unread();
     let mut output = Output::unwritten();
-    let turns = 0;
     output.write_out(to, header());
     if !output.is_written() {
-        let why = End::NotWritten;
-        return Ending {
-            why,
-            turns,
-            input,
-            output,
-        };
+        return Ending::new(End::NotWritten, 0, input, output);
     }
     input.read_more(from, feed);
     if feed.len() == 0 {
-        let why = why_ended(&input);
-        return Ending {
-            why,
-            turns,
-            input,
-            output,
-        };
+        return Ending::new(why_ended(&input), 0, input, output);
     }
     list_blocks(from, to, limits, input, output, feed, work)
 }

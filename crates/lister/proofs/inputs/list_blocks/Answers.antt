@@ -11,7 +11,7 @@ loop-done-init g c =
 pub returns-then-not-is_written : goal.returns-then-not-is_written
 returns-then-not-is_written g c =
     let after = turned c.loop-done.invariant c.bytes-in-loop-done.ensures c.bytes-in-loop-done-2.ensures c.has_ended.ensures c.list_block-s.ensures c.write_out.ensures in
-    turn_not_written after (sym c.is_written.ensures ∙ c.if-not-is_written.true)
+    rw c.new.ensures (turn_not_written after (sym c.is_written.ensures ∙ c.if-not-is_written.true))
 
 pub read_more-requires : goal.read_more-requires
 read_more-requires g c =
@@ -23,13 +23,14 @@ pub returns-then-has_failed : goal.returns-then-has_failed
 returns-then-has_failed g c =
     let after = turned c.loop-done.invariant c.bytes-in-loop-done.ensures c.bytes-in-loop-done-2.ensures c.has_ended.ensures c.list_block-s.ensures c.write_out.ensures in
     let written = sym c.is_written.ensures ∙ c.if-not-is_written.false in
-    turn_not_read after c.in-Read.is written c.drop_front.ensures c.read_more.ensures (sym c.has_failed.ensures ∙ c.if-has_failed.true)
+    rw c.new-then-has_failed.ensures
+    (turn_not_read after c.in-Read.is written c.drop_front.ensures c.read_more.ensures (sym c.has_failed.ensures ∙ c.if-has_failed.true))
 
 pub returns-in-Done : goal.returns-in-Done
 returns-in-Done g c =
     let after = turned c.loop-done.invariant c.bytes-in-loop-done.ensures c.bytes-in-loop-done-2.ensures c.has_ended.ensures c.list_block-s.ensures c.write_out.ensures in
     let written = sym c.is_written.ensures ∙ c.if-not-is_written.false in
-    rw c.why_ended-why.ensures (turn_done after c.in-Done.is written)
+    rw c.new-in-Done.ensures (rw c.why_ended.ensures (turn_done after c.in-Done.is written))
 
 pub loop-done-preserved : goal.loop-done-preserved
 loop-done-preserved g c =
@@ -42,4 +43,4 @@ loop-done-preserved g c =
     ]
 
 pub returns : goal.returns
-returns g c = loop_turns c.loop-done.invariant (omega arith)
+returns g c = rw c.new-2.ensures (loop_turns c.loop-done.invariant (omega arith))
