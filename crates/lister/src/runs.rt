@@ -11,7 +11,8 @@ use book::{LINE, Ran};
 // How many words are lent for the lines of a run: those of 512 entries.
 pub const LINES: usize = 512 * LINE;
 
-// What a listing writes into: the bytes to be written out, the payout words and the lines of a run.
+// What a listing writes into: the bytes to be written out, the payout words and the lines of a run. The block of input is not
+// among them, since it is read while these are written.
 #[derive(Drop)]
 pub struct Work {
     pub out: Out,
