@@ -3,3 +3,4 @@ pub mod EntryLaws
 pub mod ReadLaws
 pub mod Outcomes
 pub mod RoundTrips
+pub mod PutLaws

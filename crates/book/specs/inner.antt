@@ -1,3 +1,5 @@
 pub mod OnePeriod
+pub mod Entering
 pub mod Ways
 pub mod Postings
+pub mod Puts

@@ -6,7 +6,10 @@ pub mod Purses
 pub mod Makings
 pub mod Step
 pub mod Words
+pub mod Records
+pub mod Insides
 pub mod Valid
+pub mod Stays
 pub mod Washups
 pub mod Answers
 pub mod Refusals

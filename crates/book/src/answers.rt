@@ -1,51 +1,43 @@
 // The book's answers.
-ghost use Rattle.std.specs.Prelude.{◌≡◌, eqb};
+ghost use Rattle.std.specs.Prelude.{◌≡◌, Err};
 ghost use Rattle.book.specs.rules.Answers.{number_of};
 
-#[derive(Clone, Copy)]
-pub enum Answer {
-    Accepted,
-    Outside,
-    NoParticipants,
-    FewWords,
-    NotAbove,
-    Full,
-    NotInBook,
-    WrongStage,
-    Unequal,
-    PastBound,
-    NotAParticipant,
-    TooMuch,
-    EarlierArrears,
-    PursePastBound,
-    Misdated,
+// Why an entry or a making is refused, by the numbers of the rules.
+#[derive(Clone, Copy, Debug, PartialEq, Eq)]
+pub enum Refusal {
+    Outside = 3,
+    NoParticipants = 4,
+    FewWords = 5,
+    NotAbove = 6,
+    Full = 7,
+    NotInBook = 8,
+    WrongStage = 9,
+    Unequal = 10,
+    PastBound = 11,
+    NotAParticipant = 12,
+    TooMuch = 13,
+    EarlierArrears = 14,
+    PursePastBound = 15,
+    Misdated = 16,
 }
 
-pub fn is_accepted(a: Answer) -> bool
-    ensures { result ≡ eqb (number_of a) 0 }
-{
-    number(a) == 0
+impl Refusal {
+    // The number that the rules give it.
+    pub fn number(self) -> u64
+        ensures { result ≡ number_of (Err self) }
+    {
+        self as u64
+    }
 }
+
+pub type Answer = Result<(), Refusal>;
 
 // The number that the rules give an answer.
 pub fn number(a: Answer) -> u64
     ensures { result ≡ number_of a }
 {
     match a {
-        Answer::Accepted => 0,
-        Answer::Outside => 3,
-        Answer::NoParticipants => 4,
-        Answer::FewWords => 5,
-        Answer::NotAbove => 6,
-        Answer::Full => 7,
-        Answer::NotInBook => 8,
-        Answer::WrongStage => 9,
-        Answer::Unequal => 10,
-        Answer::PastBound => 11,
-        Answer::NotAParticipant => 12,
-        Answer::TooMuch => 13,
-        Answer::EarlierArrears => 14,
-        Answer::PursePastBound => 15,
-        Answer::Misdated => 16,
+        Ok(()) => 0,
+        Err(refusal) => refusal.number(),
     }
 }

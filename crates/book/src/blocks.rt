@@ -1,22 +1,18 @@
 // A block of the feed: its entries read and applied one after the other, by a function that owns the book for them.
-ghost use Rattle.std.specs.Prelude.{◌≤◌, ◌≡◌, length};
+ghost use Rattle.std.specs.Prelude.{◌≤◌, ◌≡◌, true, length, IfSome};
 ghost use Rattle.std.proofs.lemmas.List.Edits.{sets};
 ghost use Rattle.exact.specs.Rows.{places};
-ghost use Rattle.book.specs.rules.Valid.{Valid};
+ghost use Rattle.book.specs.layouts.Allowed.{allowed};
+ghost use Rattle.book.specs.rules.Kinds.{is_amount};
 ghost use Rattle.book.specs.runs.Running.{run};
+ghost use Rattle.book.specs.inner.Ways.{NamedAt};
 ghost use Rattle.book.specs.inner.Postings.{cleared};
 
 use crate::Book;
-use crate::answers::number;
-use crate::effects::apply_to_period;
-use crate::kinds::is_settle;
+use crate::entries::Entry;
+use crate::feed::read_next;
 use crate::lines::{LINE, put_line};
-use crate::periods::is_leaving;
-use crate::places::without_period;
-use crate::postings::post_amounts;
-use crate::purses::{draw, drawable_purses};
-use crate::steps::{is_barred, with_opened};
-use crate::ways::{Way, way_at};
+use crate::reader::Found;
 use exact::{PLACES, put_cells};
 
 // What a run leaves: the book, the place of the next entry, and how many words of lines it wrote.
@@ -37,80 +33,51 @@ fn clear(words: &mut [u64], n: usize, accepted: bool)
     }
 }
 
-// Reads and applies entries from a place on, up to one that cannot be read or has paid, while there is room for lines.
-// The period that an entry names is taken out, and put back or leaves, so that the rest of the book is not copied for it.
+impl Book {
+    // The place of the period whose sums the entry adds to; none where it is none of energy, amounts and washups, or is refused
+    // by what the book shows without a look at a period (4, 5, 8).
+    fn place_added_to(&self, e: Entry, room: usize) -> Option<usize>
+        requires { allowed e ≡ true }
+        ensures { IfSome result (λ j. NamedAt self.now e room j × (is_amount e ≡ true)) }
+    {
+        if self.n == 0 || room < self.n || !e.is_amount() {
+            return None;
+        }
+        self.place(e.period())
+    }
+}
+
+// Reads and enters entries from a place on, up to one that cannot be read or has paid, while there is room for lines.
+// Energy, amounts and washups are added to their period for as long as they follow each other.
 pub fn run(first: Book, bytes: &[u8], from: usize, words: &mut [u64], lines: &mut [u64]) -> Ran
-    requires { Valid first }
     ensures { let x = run bytes.now (length lines.old) first from words.old in
         (result.book ≡ x.book) × (result.place ≡ x.place) × (result.wrote ≡ length x.lines) × (words.new ≡ x.words)
         × (lines.new ≡ sets lines.old 0 x.lines) }
 {
     let mut b = first;
     let mut place = from;
-    let mut wrote: usize = 0;
+    let mut wrote = 0;
     while LINE <= lines.len() - wrote {
-        match way_at(b, bytes, place, words.len()) {
-            Way::Amounts { j } => {
-                let p = b.periods[j];
-                let r = post_amounts(p, b.n, b.held, bytes, place, lines, wrote);
-                let q = r.period;
-                b.periods[j] = q;
-                clear(words, b.n, r.accepted);
-                place = r.place;
-                wrote = r.wrote;
-            }
-            Way::Named { j, entry, next } => {
-                let barred = is_barred(b, entry);
-                // What a settle entry draws is moved into its period first.
-                if is_settle(entry) {
-                    let named = b.periods[j];
-                    let purses = b.purses;
-                    let d = draw(named, purses, drawable_purses(b, named.number), b.n);
-                    let moved = d.period;
-                    let left = d.purses;
-                    b.periods[j] = moved;
-                    b.purses = left;
-                }
-                let p = b.periods[j];
-                let grouping = b.grouping;
-                let r = apply_to_period(p, b.n, grouping, entry, barred, b.held, words);
-                let q = r.period;
-                let answer = r.answer;
-                put_line(lines, wrote, number(answer), r.paid, r.held);
-                place = next;
-                wrote += LINE;
-                if is_leaving(q, b.n) {
-                    let left = without_period(b, j, r.held);
-                    b = left;
-                } else {
-                    b.periods[j] = q;
-                    b.held = r.held;
-                }
-                if r.paid != 0 {
-                    break;
-                }
-            }
-            Way::Opens { period, next } => {
-                let left = with_opened(b, period, words);
-                b = left;
-                put_line(lines, wrote, 0, 0, b.held);
-                place = next;
-                wrote += LINE;
-            }
-            Way::Raises { i, cents, next } => {
-                put_cells(words, b.n, [0; PLACES]);
-                b.held = b.held + cents;
-                b.purses[i] = b.purses[i] + cents;
-                put_line(lines, wrote, 0, 0, b.held);
-                place = next;
-                wrote += LINE;
-            }
-            Way::Refused { answer, next } => {
-                put_line(lines, wrote, number(answer), 0, b.held);
-                place = next;
-                wrote += LINE;
-            }
-            Way::Unread => break,
+        let Ok(Found { entry, next }) = read_next(bytes, place) else {
+            break;
+        };
+        if let Some(j) = b.place_added_to(entry, words.len()) {
+            let (n, held) = (b.n, b.held);
+            let posted = b.periods[j].post_amounts(n, held, bytes, place, lines, wrote);
+            clear(words, b.n, posted.accepted);
+            place = posted.place;
+            wrote = posted.wrote;
+            continue;
+        }
+        let (answer, paid) = match b.enter(entry, words) {
+            Ok(accepted) => (0, accepted.paid),
+            Err(refusal) => (refusal.number(), 0),
+        };
+        put_line(lines, wrote, answer, paid, b.held);
+        place = next;
+        wrote += LINE;
+        if paid != 0 {
+            break;
         }
     }
     Ran {

@@ -1,6 +1,7 @@
-// Entries by kind, with the fields of 01 and 02 at their widths.
+// Entries by kind, with the fields of 01 and 02 at their widths. Sides and tiers are numbers, since `write_entry` and `apply` take
+// entries of any field values and refuse those outside.
 ghost use Rattle.std.specs.Prelude.{◌≡◌};
-ghost use Rattle.book.specs.layouts.Entries.{kind_of, unknown};
+ghost use Rattle.book.specs.layouts.Entries.{body_length, kind_number, kind_of};
 
 #[derive(Clone, Copy)]
 pub enum Entry {
@@ -47,51 +48,49 @@ pub enum Entry {
     },
 }
 
-// The numbers of the kinds.
-pub const OPEN: usize = 1;
+// The kinds of entry, with their numbers.
+#[derive(Clone, Copy, Debug, PartialEq, Eq)]
+pub enum Kind {
+    Open = 1,
+    Energy = 2,
+    Amount = 3,
+    Notice = 4,
+    Receipt = 5,
+    Settle = 6,
+    Purse = 7,
+    Washup = 8,
+}
 
-pub const ENERGY: usize = 2;
+// The length of a body, by kind; there is no kind 0.
+const BODY_LENGTHS: [usize; 9] = [0, 4, 14, 15, 4, 13, 4, 9, 22];
 
-pub const AMOUNT: usize = 3;
+impl Kind {
+    pub fn number(self) -> u8
+        ensures { result ≡ kind_number self }
+    {
+        self as u8
+    }
 
-pub const NOTICE: usize = 4;
-
-pub const RECEIPT: usize = 5;
-
-pub const SETTLE: usize = 6;
-
-pub const PURSE: usize = 7;
-
-pub const WASHUP: usize = 8;
-
-// One more than the highest kind; there is no kind 0.
-pub const KINDS: usize = 9;
-
-// The length of a body, by kind.
-pub const BODY_LENGTHS: [usize; KINDS] = [0, 4, 14, 15, 4, 13, 4, 9, 22];
-
-// The number of an entry's kind.
-pub fn kind_of(e: Entry) -> usize
-    ensures { result ≡ kind_of e }
-{
-    match e {
-        Entry::Open { .. } => OPEN,
-        Entry::Energy { .. } => ENERGY,
-        Entry::Amount { .. } => AMOUNT,
-        Entry::Notice { .. } => NOTICE,
-        Entry::Receipt { .. } => RECEIPT,
-        Entry::Settle { .. } => SETTLE,
-        Entry::Purse { .. } => PURSE,
-        Entry::Washup { .. } => WASHUP,
+    pub fn body_length(self) -> usize
+        ensures { result ≡ body_length (kind_number self) }
+    {
+        BODY_LENGTHS[self as usize]
     }
 }
 
-// Whether there is no such kind.
-pub fn is_unknown(kind: usize) -> bool
-    ensures { result ≡ unknown kind }
-{
-    if kind == 0 {
-        return true;
+impl Entry {
+    pub fn kind(&self) -> Kind
+        ensures { kind_number result ≡ kind_of self.now }
+    {
+        match self {
+            Entry::Open { .. } => Kind::Open,
+            Entry::Energy { .. } => Kind::Energy,
+            Entry::Amount { .. } => Kind::Amount,
+            Entry::Notice { .. } => Kind::Notice,
+            Entry::Receipt { .. } => Kind::Receipt,
+            Entry::Settle { .. } => Kind::Settle,
+            Entry::Purse { .. } => Kind::Purse,
+            Entry::Washup { .. } => Kind::Washup,
+        }
     }
-    KINDS <= kind
 }

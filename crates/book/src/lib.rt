@@ -3,6 +3,7 @@
 
 use exact::Row;
 use settlement::{Grouping, TierCells};
+use std::marker::Model;
 
 mod allowed;
 mod answers;
@@ -23,10 +24,9 @@ mod purses;
 mod reader;
 mod refusals;
 mod steps;
-mod ways;
 mod writer;
 
-pub use answers::{Answer, number};
+pub use answers::{Answer, Refusal, number};
 pub use blocks::{Ran, run};
 pub use entries::Entry;
 pub use feed::{Feed, feed_at, next_entry, read_next};
@@ -34,9 +34,9 @@ pub use limits::{Limits, demonstration, market};
 pub use lines::LINE;
 pub use makings::{Made, Making, new, separate};
 pub use places::held;
-pub use reader::Reading;
+pub use reader::{Found, ReadError};
 pub use steps::{Applied, apply};
-pub use writer::{Writing, write_entry};
+pub use writer::{WriteError, write_entry};
 
 // A side is 0, owing by a participant, or 1, owing to it.
 pub const SIDES: usize = 2;
@@ -44,7 +44,7 @@ pub const SIDES: usize = 2;
 // The places that a book has for periods.
 pub const PERIOD_PLACES: usize = 12;
 
-#[derive(Clone, Copy)]
+#[derive(Clone, Copy, Debug, PartialEq, Eq)]
 pub enum Stage {
     Opened,
     Noticed,
@@ -68,7 +68,8 @@ pub struct Period {
 }
 
 // A book of n participants: their groups and reserves, its limits, the highest period ever opened, the cents held, its periods
-// in the first `count` places, oldest first, and each participant's purse.
+// in the first `count` places, oldest first, and each participant's purse. The places are an array with a count, since a Book is
+// Copy for those who hand it to `apply` and `run`, as no vector is.
 #[derive(Clone, Copy)]
 pub struct Book {
     n: usize,
@@ -79,4 +80,20 @@ pub struct Book {
     held: u64,
     periods: [Period; PERIOD_PLACES],
     purses: Row,
+}
+
+// Clauses see the record of these fields, and every book is valid.
+impl Model for Book {
+    ghost use Rattle.book.specs.rules.Records.{BookRecord};
+
+    ghost Value = { BookRecord };
+
+    ghost use Rattle.book.specs.rules.Valid.{Valid};
+    ghost use Rattle.book.specs.rules.Insides.{record_of, inside_of};
+
+    ghost view = { record_of };
+
+    ghost invariant = { λ b. Valid (record_of b) };
+
+    ghost inverse = { inside_of };
 }

@@ -36,8 +36,5 @@ pub fn demonstration() -> Limits
 pub fn is_within(x: usize, most: usize) -> bool
     ensures { result ≡ within most x }
 {
-    if x == 0 {
-        return false;
-    }
-    x <= most
+    (1..=most).contains(&x)
 }

@@ -4,13 +4,13 @@ ghost use Rattle.exact.specs.Rows.{places};
 ghost use Rattle.book.specs.Checks.{refusal};
 ghost use Rattle.book.specs.rules.Answers.{number_of};
 ghost use Rattle.book.specs.rules.State.{pack};
-ghost use Rattle.book.specs.rules.Makings.{made, making_checks, grouping_of, kept, no_making, empty_state, separate};
+ghost use Rattle.book.specs.rules.Valid.{SoundState};
+ghost use Rattle.book.specs.rules.Makings.{made, making_checks, kept, no_making, empty_state, separate};
 
-use crate::answers::{Answer, is_accepted};
+use crate::answers::{Answer, Refusal};
 use crate::limits::{Limits, is_within};
-use crate::periods::fresh_period;
-use crate::{Book, PERIOD_PLACES};
-use exact::{PLACES, put_cells};
+use crate::{Book, PERIOD_PLACES, Period};
+use exact::{PLACES, cells};
 use settlement::{GROUPS, Grouping, is_grouping_allowed};
 
 // The number of participants, their groups with the groups' reserves, and the limits of the book. Group numbers from n on are
@@ -22,7 +22,7 @@ pub struct Making {
     pub limits: Limits,
 }
 
-// A book that was made, or refused.
+// A book that was made, or refused: a refused making hands a book back too, which answers 4 to every entry.
 #[derive(Clone, Copy)]
 pub struct Made {
     pub answer: Answer,
@@ -33,18 +33,15 @@ pub struct Made {
 pub fn separate(n: usize, limits: Limits) -> Making
     ensures { result ≡ separate n limits }
 {
-    let mut groups = [0u64; PLACES];
-    for i in 0..PLACES {
-        groups[i] = i as u64;
-    }
+    let groups = cells(PLACES, |i| i as u64);
     let grouping = Grouping {
-        groups: groups,
+        groups,
         reserves: [0; GROUPS],
     };
     Making {
-        n: n,
-        grouping: grouping,
-        limits: limits,
+        n,
+        grouping,
+        limits,
     }
 }
 
@@ -52,86 +49,68 @@ pub fn separate(n: usize, limits: Limits) -> Making
 fn making_answer(m: Making) -> Answer
     ensures { number_of result ≡ refusal (making_checks m) }
 {
-    if !is_within(m.limits.participants, PLACES) {
-        return Answer::NoParticipants;
+    if !is_within(m.limits.participants, PLACES)
+        || !is_within(m.limits.periods, PERIOD_PLACES)
+        || !is_within(m.n, m.limits.participants)
+    {
+        return Err(Refusal::NoParticipants);
     }
-    if !is_within(m.limits.periods, PERIOD_PLACES) {
-        return Answer::NoParticipants;
+    if !is_grouping_allowed(m.grouping, m.n) {
+        return Err(Refusal::Outside);
     }
-    if !is_within(m.n, m.limits.participants) {
-        return Answer::NoParticipants;
-    }
-    let grouping = m.grouping;
-    if !is_grouping_allowed(grouping, m.n) {
-        return Answer::Outside;
-    }
-    Answer::Accepted
+    Ok(())
 }
 
 // A book without periods, its purses empty.
 fn empty_book(m: Making) -> Book
+    requires { SoundState (empty_state m) }
     ensures { result ≡ pack (empty_state m) }
 {
-    let free = fresh_period(0);
-    let grouping = m.grouping;
-    let limits = m.limits;
+    let Making {
+        n,
+        grouping,
+        limits,
+    } = m;
     Book {
-        n: m.n,
-        grouping: grouping,
-        limits: limits,
+        n,
+        grouping,
+        limits,
         highest: 0,
         count: 0,
         held: 0,
-        periods: [free; PERIOD_PLACES],
+        periods: [Period::fresh(0); PERIOD_PLACES],
         purses: [0; PLACES],
     }
 }
 
-// The groups that the book keeps: 0 from n on.
-fn grouping_of(m: Making) -> Grouping
-    requires { m.n ≤ places }
-    ensures { result ≡ grouping_of m }
-{
-    let given = m.grouping;
-    let groups = given.groups;
-    let mut kept = [0u64; PLACES];
-    put_cells(&mut kept, m.n, groups);
-    let reserves = given.reserves;
-    Grouping {
-        groups: kept,
-        reserves: reserves,
-    }
-}
-
-// What the book keeps of its making.
+// What the book keeps of its making: the groups are 0 from n on.
 fn kept(m: Making) -> Making
     requires { m.n ≤ places }
     ensures { result ≡ kept m }
 {
-    let limits = m.limits;
-    Making {
-        n: m.n,
-        grouping: grouping_of(m),
-        limits: limits,
-    }
+    let Grouping {
+        groups: given,
+        reserves,
+    } = m.grouping;
+    let groups = cells(m.n, |i| given[i]);
+    let grouping = Grouping { groups, reserves };
+    Making { grouping, ..m }
 }
 
 // What a refused book has: no participants, and limits of 0.
 fn no_making() -> Making
     ensures { result ≡ no_making }
 {
-    let none = Grouping {
-        groups: [0; PLACES],
-        reserves: [0; GROUPS],
-    };
-    let limits = Limits {
-        participants: 0,
-        periods: 0,
-    };
     Making {
         n: 0,
-        grouping: none,
-        limits: limits,
+        grouping: Grouping {
+            groups: [0; PLACES],
+            reserves: [0; GROUPS],
+        },
+        limits: Limits {
+            participants: 0,
+            periods: 0,
+        },
     }
 }
 
@@ -139,17 +118,14 @@ fn no_making() -> Making
 pub fn new(m: Making) -> Made
     ensures { (number_of result.answer ≡ (made m).answer) × (result.book ≡ pack (made m).state) }
 {
-    let answer = making_answer(m);
-    if !is_accepted(answer) {
-        let b = empty_book(no_making());
-        return Made {
-            answer: answer,
-            book: b,
-        };
-    }
-    let b = empty_book(kept(m));
-    Made {
-        answer: answer,
-        book: b,
+    match making_answer(m) {
+        Ok(()) => Made {
+            answer: Ok(()),
+            book: empty_book(kept(m)),
+        },
+        Err(refusal) => Made {
+            answer: Err(refusal),
+            book: empty_book(no_making()),
+        },
     }
 }

@@ -1,11 +1,9 @@
 // The places of a book: searched, filled and freed.
-ghost use Rattle.std.specs.Prelude.{◌≡◌, ◌<◌, min, [], ◌∷◌, length};
+ghost use Rattle.std.specs.Prelude.{◌≡◌, ◌<◌, [], ◌∷◌, length, MatchOption};
 ghost use Rattle.exact.specs.Rows.{places};
-ghost use Rattle.book.specs.rules.Limits.{period_places};
 ghost use Rattle.book.specs.rules.State.{view, pack, find, held_in, held_by, earlier_arrears, removed, added, cents_held};
-ghost use Rattle.book.specs.rules.Valid.{Valid};
+ghost use Rattle.book.specs.rules.Valid.{InBook, Valid};
 
-use crate::periods::{fresh_period, has_arrears_before};
 use crate::{Book, PERIOD_PLACES, Period};
 
 // The cents that the book holds.
@@ -15,72 +13,43 @@ pub fn held(b: Book) -> u64
     b.held
 }
 
-// The first place that has a period of that number, or one behind those in use. The search goes through all places:
-// their number is fixed, and so the book is not copied for it.
-pub fn place(b: Book, number: u32) -> usize
-    requires { Valid b }
-    ensures { min result b.count ≡ find number (view b).periods }
-{
-    for k in 0..PERIOD_PLACES {
-        let p = b.periods[k];
-        if p.number == number {
-            return k;
-        }
+impl Book {
+    // The place in use that has the period of that number.
+    pub(crate) fn place(&self, number: u32) -> Option<usize>
+        ensures found { MatchOption result (find number (view self.now).periods ≡ self.now.count) (λ j. (j ≡ find number (view self.now).periods) × (j < self.now.count)) }
+        ensures valid { Valid self.now }
+    {
+        let used = &self.periods[..self.count];
+        used.iter().position(|p| p.number == number)
     }
-    PERIOD_PLACES
-}
 
-// Whether an earlier settled period has arrears of i.
-pub fn has_earlier_arrears(b: Book, i: usize, number: u32) -> bool
-    requires { Valid b × (i < places) }
-    ensures { result ≡ earlier_arrears i number (view b).periods }
-{
-    for k in 0..PERIOD_PLACES {
-        let p = b.periods[k];
-        if has_arrears_before(p, i, number) {
-            return true;
-        }
+    // Whether an earlier settled period has arrears of i.
+    pub(crate) fn has_earlier_arrears(&self, i: usize, number: u32) -> bool
+        requires { i < places }
+        ensures { result ≡ earlier_arrears i number (view self.now).periods }
+    {
+        let used = &self.periods[..self.count];
+        used.iter().any(|p| p.has_arrears_before(i, number))
     }
-    false
-}
 
-// One more period, the last, of the highest number.
-pub fn with_period(b: Book, p: Period) -> Book
-    requires { Valid b × (length (view b).periods < period_places) × (held_in b.n (p ∷ []) ≡ 0) }
-    ensures { result ≡ pack (added (view b) p) }
-{
-    let at = b.count;
-    let mut c = b;
-    c.highest = p.number;
-    c.count = at + 1;
-    c.periods[at] = p;
-    c
-}
-
-// A period leaves: the later ones move down, and the last place is not in use.
-pub fn without_period(b: Book, j: usize, held: u64) -> Book
-    requires { Valid b × (j < length (view b).periods) × (held ≡ held_by (removed (view b) j)) }
-    ensures { result ≡ pack (removed (view b) j) }
-{
-    let mut ps = b.periods;
-    let last = b.count - 1;
-    for k in j..last {
-        let p = ps[k + 1];
-        ps[k] = p;
+    // Adds a period of the highest number, the last.
+    pub(crate) fn add_period(&mut self, p: Period)
+        requires { (length (view self.old).periods < self.old.limits.periods) × InBook self.old.n self.old.grouping p × (held_in self.old.n (p ∷ []) ≡ 0) }
+        ensures { self.new ≡ pack (added (view self.old) p) }
+    {
+        self.periods[self.count] = p;
+        self.highest = p.number;
+        self.count += 1;
     }
-    let blank = fresh_period(0);
-    ps[last] = blank;
-    let grouping = b.grouping;
-    let limits = b.limits;
-    let purses = b.purses;
-    Book {
-        n: b.n,
-        grouping: grouping,
-        limits: limits,
-        highest: b.highest,
-        count: last,
-        held: held,
-        periods: ps,
-        purses: purses,
+
+    // Takes a period out: the later ones move down, and the last place is not in use. `held` is what the book then holds.
+    pub(crate) fn remove_period(&mut self, j: usize, held: u64)
+        requires { (j < length (view self.old).periods) × (held ≡ held_by (removed (view self.old) j)) }
+        ensures { self.new ≡ pack (removed (view self.old) j) }
+    {
+        self.count -= 1;
+        self.held = held;
+        self.periods[j..].rotate_left(1);
+        self.periods[PERIOD_PLACES - 1] = Period::fresh(0);
     }
 }

@@ -1,143 +1,137 @@
 // Entries read at a place of lent bytes.
-ghost use Rattle.std.specs.Prelude.{◌≡◌, ◌+◌, ◌≤◌, length, false};
+ghost use Rattle.std.specs.Prelude.{◌≡◌, ◌≤◌, length, true, MatchResult};
 ghost use Rattle.book.specs.layouts.Fields.{fields_at};
-ghost use Rattle.book.specs.layouts.Entries.{body_length, unknown, layout, entry_of};
-ghost use Rattle.book.specs.layouts.Reading.{reading, read_outcome};
+ghost use Rattle.book.specs.layouts.Entries.{body_length, kind_number, unknown, layout, entry_of};
+ghost use Rattle.book.specs.declared.reader.ReadError.TheVariants.{Unknown};
+ghost use Rattle.book.specs.layouts.Reading.{reading, read_number, read_outcome};
 
-use crate::allowed::is_allowed;
-use crate::entries::{BODY_LENGTHS, Entry, is_unknown};
-use crate::fields::{byte_at, long_at, word_at};
+use crate::entries::{Entry, Kind};
+use crate::fields::Fields;
 
-// What stands at a place: an entry, with the place after it, or nothing that can be read.
+// An entry that was read, and the place after it.
 #[derive(Clone, Copy)]
-pub enum Reading {
-    Found { entry: Entry, next: usize },
-    Short,
-    Unknown,
-    Outside,
+pub struct Found {
+    pub entry: Entry,
+    pub next: usize,
 }
 
-fn energy_at(s: &[u8], body: usize) -> Entry
-    requires { body + 14 ≤ length s.now }
-    ensures { result ≡ entry_of 2 (fields_at (layout 2) s.now body) }
+// Why no entry was read: too few bytes, an unknown kind, or a field outside its values; with the rules' numbers.
+#[derive(Clone, Copy, Debug, PartialEq, Eq)]
+pub enum ReadError {
+    Short = 1,
+    Unknown = 2,
+    Outside = 3,
+}
+
+impl ReadError {
+    // The number that the rules give it.
+    pub fn number(self) -> u64
+        ensures { result ≡ read_number self }
+    {
+        self as u64
+    }
+}
+
+impl TryFrom<u8> for Kind {
+    type Error = ReadError;
+
+    ghost try_from_gives = { λ number r. MatchResult r (λ kind. kind_number kind ≡ number) (λ e. (e ≡ Unknown) × (unknown number ≡ true)) };
+
+    fn try_from(number: u8) -> Result<Kind, ReadError> {
+        match number {
+            1 => Ok(Kind::Open),
+            2 => Ok(Kind::Energy),
+            3 => Ok(Kind::Amount),
+            4 => Ok(Kind::Notice),
+            5 => Ok(Kind::Receipt),
+            6 => Ok(Kind::Settle),
+            7 => Ok(Kind::Purse),
+            8 => Ok(Kind::Washup),
+            _ => Err(ReadError::Unknown),
+        }
+    }
+}
+
+// Kinds of many fields have functions of their own, which keeps `entry_of` short.
+#[tactic(auto, using(crate::proofs::layouts::FieldLaws::fields_next), unfolding(crate::specs::layouts::Entries::entry_of))]
+fn energy(mut f: Fields) -> Entry
+    requires { 14 ≤ length f.rest.now }
+    ensures { result ≡ entry_of 2 (fields_at (layout 2) f.entry.rest.now 0) }
 {
-    let participant = body + 4;
-    let side = participant + 1;
-    let quantity = side + 1;
-    let price = quantity + 4;
     Entry::Energy {
-        period: word_at(s, body),
-        participant: byte_at(s, participant),
-        side: byte_at(s, side),
-        quantity: word_at(s, quantity),
-        price: word_at(s, price),
+        period: f.word(),
+        participant: f.byte(),
+        side: f.byte(),
+        quantity: f.word(),
+        price: f.word(),
     }
 }
 
-fn amount_at(s: &[u8], body: usize) -> Entry
-    requires { body + 15 ≤ length s.now }
-    ensures { result ≡ entry_of 3 (fields_at (layout 3) s.now body) }
+#[tactic(auto, using(crate::proofs::layouts::FieldLaws::fields_next), unfolding(crate::specs::layouts::Entries::entry_of))]
+fn amount(mut f: Fields) -> Entry
+    requires { 15 ≤ length f.rest.now }
+    ensures { result ≡ entry_of 3 (fields_at (layout 3) f.entry.rest.now 0) }
 {
-    let participant = body + 4;
-    let side = participant + 1;
-    let tier = side + 1;
-    let cents = tier + 1;
     Entry::Amount {
-        period: word_at(s, body),
-        participant: byte_at(s, participant),
-        side: byte_at(s, side),
-        tier: byte_at(s, tier),
-        cents: long_at(s, cents),
+        period: f.word(),
+        participant: f.byte(),
+        side: f.byte(),
+        tier: f.byte(),
+        cents: f.long(),
     }
 }
 
-fn receipt_at(s: &[u8], body: usize) -> Entry
-    requires { body + 13 ≤ length s.now }
-    ensures { result ≡ entry_of 5 (fields_at (layout 5) s.now body) }
+fn washup(mut f: Fields) -> Entry
+    requires { 22 ≤ length f.rest.now }
+    ensures { result ≡ entry_of 8 (fields_at (layout 8) f.entry.rest.now 0) }
 {
-    let participant = body + 4;
-    let cents = participant + 1;
-    Entry::Receipt {
-        period: word_at(s, body),
-        participant: byte_at(s, participant),
-        cents: long_at(s, cents),
-    }
-}
-
-fn purse_at(s: &[u8], body: usize) -> Entry
-    requires { body + 9 ≤ length s.now }
-    ensures { result ≡ entry_of 7 (fields_at (layout 7) s.now body) }
-{
-    let cents = body + 1;
-    Entry::Purse {
-        participant: byte_at(s, body),
-        cents: long_at(s, cents),
-    }
-}
-
-fn washup_at(s: &[u8], body: usize) -> Entry
-    requires { body + 22 ≤ length s.now }
-    ensures { result ≡ entry_of 8 (fields_at (layout 8) s.now body) }
-{
-    let earlier = body + 4;
-    let participant = earlier + 4;
-    let side = participant + 1;
-    let old = side + 1;
-    let new = old + 4;
-    let price = new + 4;
     Entry::Washup {
-        period: word_at(s, body),
-        earlier: word_at(s, earlier),
-        participant: byte_at(s, participant),
-        side: byte_at(s, side),
-        old: word_at(s, old),
-        new: word_at(s, new),
-        price: word_at(s, price),
+        period: f.word(),
+        earlier: f.word(),
+        participant: f.byte(),
+        side: f.byte(),
+        old: f.word(),
+        new: f.word(),
+        price: f.word(),
     }
 }
 
-// The entry of a known kind, of whose body no byte is missing.
-fn body_at(s: &[u8], kind: usize, body: usize) -> Entry
-    requires { (unknown kind ≡ false) × (body + body_length kind ≤ length s.now) }
-    ensures { result ≡ entry_of kind (fields_at (layout kind) s.now body) }
+// The entry of a kind, from the bytes of its body.
+#[tactic(auto, using(crate::proofs::layouts::FieldLaws::fields_next), unfolding(crate::specs::layouts::Entries::entry_of))]
+fn entry_of(kind: Kind, mut f: Fields) -> Entry
+    requires { body_length (kind_number kind) ≤ length f.rest.now }
+    ensures { let number = kind_number kind in result ≡ entry_of number (fields_at (layout number) f.entry.rest.now 0) }
 {
     match kind {
-        1 => Entry::Open {
-            period: word_at(s, body),
+        Kind::Open => Entry::Open { period: f.word() },
+        Kind::Energy => energy(f),
+        Kind::Amount => amount(f),
+        Kind::Notice => Entry::Notice { period: f.word() },
+        Kind::Receipt => Entry::Receipt {
+            period: f.word(),
+            participant: f.byte(),
+            cents: f.long(),
         },
-        2 => energy_at(s, body),
-        3 => amount_at(s, body),
-        4 => Entry::Notice {
-            period: word_at(s, body),
+        Kind::Settle => Entry::Settle { period: f.word() },
+        Kind::Purse => Entry::Purse {
+            participant: f.byte(),
+            cents: f.long(),
         },
-        5 => receipt_at(s, body),
-        6 => Entry::Settle {
-            period: word_at(s, body),
-        },
-        7 => purse_at(s, body),
-        _ => washup_at(s, body),
+        Kind::Washup => washup(f),
     }
 }
 
 // The entry at a place, which may lie past the end.
-pub fn read_entry(s: &[u8], place: usize) -> Reading
+pub fn read_entry(s: &[u8], place: usize) -> Result<Found, ReadError>
     ensures { read_outcome place result ≡ reading s.now place }
 {
-    if s.len() <= place {
-        return Reading::Short;
+    let number = *s.get(place).ok_or(ReadError::Short)?;
+    let kind = Kind::try_from(number)?;
+    let next = place + 1 + kind.body_length();
+    let body = s.get(place + 1..next).ok_or(ReadError::Short)?;
+    let entry = entry_of(kind, Fields::new(body));
+    if !entry.is_allowed() {
+        return Err(ReadError::Outside);
     }
-    let kind = s[place] as usize;
-    if is_unknown(kind) {
-        return Reading::Unknown;
-    }
-    let body = place + 1;
-    let next = body + BODY_LENGTHS[kind];
-    if s.len() < next {
-        return Reading::Short;
-    }
-    let entry = body_at(s, kind, body);
-    if is_allowed(entry) {
-        return Reading::Found { entry, next };
-    }
-    Reading::Outside
+    Ok(Found { entry, next })
 }

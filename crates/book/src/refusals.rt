@@ -1,148 +1,131 @@
 // What an entry is answered by the period that it names, and an opening by the book.
 ghost use Rattle.std.specs.Prelude.{◌≡◌, true, ◌≤◌, ◌<◌};
-ghost use Rattle.exact.specs.Rows.{places};
+ghost use Rattle.exact.specs.Rows.{places, at};
 ghost use Rattle.settlement.specs.Month.{side_limit};
 ghost use Rattle.book.specs.Checks.{refusal};
 ghost use Rattle.book.specs.layouts.Allowed.{allowed};
 ghost use Rattle.book.specs.rules.State.{view};
 ghost use Rattle.book.specs.rules.Refusals.{receivable, side_checks, open_checks, notice_checks, receipt_checks, settle_checks, period_checks};
-ghost use Rattle.book.specs.rules.Valid.{Sound, Valid};
+ghost use Rattle.book.specs.rules.Valid.{Sound};
 ghost use Rattle.book.specs.rules.Answers.{number_of};
 
-use crate::answers::Answer;
+use crate::answers::{Answer, Refusal};
 use crate::entries::Entry;
-use crate::kinds::{addition_of, is_amount, is_misdated};
-use crate::periods::{is_noticed, is_opened, is_settled};
+use crate::kinds::Addition;
 use crate::{Book, Period, Stage};
 use exact::excess;
 use settlement::SIDE_LIMIT;
 
-// 12, 9, 16, 11: cents added to a side of that total, in a period at that stage.
-pub fn amount_answer(
-    stage: Stage,
-    total: u64,
-    n: usize,
-    i: usize,
-    misdated: bool,
-    cents: u64,
-) -> Answer
-    requires { (total ≤ side_limit) × (cents ≤ side_limit) }
-    ensures { number_of result ≡ refusal (side_checks n stage total i misdated cents) }
-{
-    if n <= i {
-        return Answer::NotAParticipant;
+impl Book {
+    // 6, 7: an opening of period k.
+    pub(crate) fn opening_answer(&self, k: u32) -> Answer
+        ensures { number_of result ≡ refusal (open_checks (view self.now) k) }
+    {
+        if k <= self.highest {
+            return Err(Refusal::NotAbove);
+        }
+        if self.limits.periods <= self.count {
+            return Err(Refusal::Full);
+        }
+        Ok(())
     }
-    if !is_opened(stage) {
-        return Answer::WrongStage;
-    }
-    if misdated {
-        return Answer::Misdated;
-    }
-    if SIDE_LIMIT < total + cents {
-        return Answer::PastBound;
-    }
-    Answer::Accepted
 }
 
-// 6, 7: an opening of period k.
-pub fn opening_answer(b: Book, k: u32) -> Answer
-    requires { Valid b }
-    ensures { number_of result ≡ refusal (open_checks (view b) k) }
-{
-    if k <= b.highest {
-        return Answer::NotAbove;
+impl Period {
+    // 12, 9, 16, 11: cents added to a side of the period.
+    pub(crate) fn amount_answer(&self, n: usize, a: Addition, misdated: bool) -> Answer
+        requires { (a.side < 2) × (at self.now.totals a.side ≤ side_limit) × (a.cents ≤ side_limit) }
+        ensures { number_of result ≡ refusal (side_checks n self.now.stage (at self.now.totals a.side) a.participant misdated a.cents) }
+    {
+        if n <= a.participant {
+            return Err(Refusal::NotAParticipant);
+        }
+        if self.stage != Stage::Opened {
+            return Err(Refusal::WrongStage);
+        }
+        if misdated {
+            return Err(Refusal::Misdated);
+        }
+        if SIDE_LIMIT < self.totals[a.side] + a.cents {
+            return Err(Refusal::PastBound);
+        }
+        Ok(())
     }
-    if b.limits.periods <= b.count {
-        return Answer::Full;
-    }
-    Answer::Accepted
-}
 
-// 9, 10.
-fn notice_answer(p: Period, n: usize) -> Answer
-    requires { Sound n p }
-    ensures { number_of result ≡ refusal (notice_checks n p) }
-{
-    let s = p.stage;
-    if !is_opened(s) {
-        return Answer::WrongStage;
+    // 9, 10.
+    fn notice_answer(&self, n: usize) -> Answer
+        requires { Sound n self.now }
+        ensures { number_of result ≡ refusal (notice_checks n self.now) }
+    {
+        if self.stage != Stage::Opened {
+            return Err(Refusal::WrongStage);
+        }
+        if self.totals[0] != self.totals[1] {
+            return Err(Refusal::Unequal);
+        }
+        Ok(())
     }
-    if p.totals[0] != p.totals[1] {
-        return Answer::Unequal;
-    }
-    Answer::Accepted
-}
 
-// What may still be received from i.
-fn receivable_from(p: Period, i: usize) -> u64
-    requires { i < places }
-    ensures { result ≡ receivable p i }
-{
-    let s = p.stage;
-    if is_settled(s) {
-        return p.arrears[i];
+    // What may still be received from i.
+    #[tactic(auto, unfolding(crate::specs::rules::Refusals::receivable))]
+    fn receivable_from(&self, i: usize) -> u64
+        requires { i < places }
+        ensures { result ≡ receivable self.now i }
+    {
+        if self.stage == Stage::Settled {
+            self.arrears[i]
+        } else {
+            excess(self.payable[i], self.received[i])
+        }
     }
-    excess(p.payable[i], p.received[i])
-}
 
-// 12, 9, 14, 13.
-fn receipt_answer(p: Period, n: usize, i: usize, barred: bool, cents: u64) -> Answer
-    requires { i < places }
-    ensures { number_of result ≡ refusal (receipt_checks n barred p i cents) }
-{
-    if n <= i {
-        return Answer::NotAParticipant;
+    // 12, 9, 14, 13.
+    fn receipt_answer(&self, n: usize, i: usize, barred: bool, cents: u64) -> Answer
+        requires { i < places }
+        ensures { number_of result ≡ refusal (receipt_checks n barred self.now i cents) }
+    {
+        if n <= i {
+            return Err(Refusal::NotAParticipant);
+        }
+        if self.stage == Stage::Opened {
+            return Err(Refusal::WrongStage);
+        }
+        if barred {
+            return Err(Refusal::EarlierArrears);
+        }
+        if self.receivable_from(i) < cents {
+            return Err(Refusal::TooMuch);
+        }
+        Ok(())
     }
-    let s = p.stage;
-    if is_opened(s) {
-        return Answer::WrongStage;
-    }
-    if barred {
-        return Answer::EarlierArrears;
-    }
-    if receivable_from(p, i) < cents {
-        return Answer::TooMuch;
-    }
-    Answer::Accepted
-}
 
-// 9.
-fn settle_answer(p: Period) -> Answer
-    ensures { number_of result ≡ refusal (settle_checks p) }
-{
-    let s = p.stage;
-    if is_noticed(s) {
-        return Answer::Accepted;
+    // 9.
+    fn settle_answer(&self) -> Answer
+        ensures { number_of result ≡ refusal (settle_checks self.now) }
+    {
+        if self.stage != Stage::Noticed {
+            return Err(Refusal::WrongStage);
+        }
+        Ok(())
     }
-    Answer::WrongStage
-}
 
-// The checks of each kind on its period; `barred` is whether another period refuses a receipt (14).
-pub fn period_answer(p: Period, n: usize, e: Entry, barred: bool) -> Answer
-    requires { Sound n p × (allowed e ≡ true) }
-    ensures { number_of result ≡ refusal (period_checks n barred e p) }
-{
-    if is_amount(e) {
-        let a = addition_of(e);
-        let side = a.side;
-        let stage = p.stage;
-        return amount_answer(
-            stage,
-            p.totals[side],
-            n,
-            a.participant,
-            is_misdated(e),
-            a.cents,
-        );
-    }
-    match e {
-        Entry::Notice { .. } => notice_answer(p, n),
-        Entry::Receipt {
-            participant,
-            cents,
-            ..
-        } => receipt_answer(p, n, participant as usize, barred, cents),
-        Entry::Settle { .. } => settle_answer(p),
-        _ => Answer::Accepted,
+    // The checks of each kind on its period; `barred` is whether another period refuses a receipt (14).
+    pub(crate) fn period_answer(&self, n: usize, e: Entry, barred: bool) -> Answer
+        requires { Sound n self.now × (allowed e ≡ true) }
+        ensures { number_of result ≡ refusal (period_checks n barred e self.now) }
+    {
+        if let Some(a) = e.addition() {
+            return self.amount_answer(n, a, e.is_misdated());
+        }
+        match e {
+            Entry::Notice { .. } => self.notice_answer(n),
+            Entry::Receipt {
+                participant,
+                cents,
+                ..
+            } => self.receipt_answer(n, participant as usize, barred, cents),
+            Entry::Settle { .. } => self.settle_answer(),
+            _ => Ok(()),
+        }
     }
 }

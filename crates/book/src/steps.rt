@@ -1,29 +1,22 @@
 // One entry of any kind.
-ghost use Rattle.std.specs.Prelude.{◌≡◌, true, false, ◌≤◌, ◌<◌, length};
-ghost use Rattle.exact.specs.Rows.{places};
+ghost use Rattle.std.specs.Prelude.{◌≡◌, true, false, length};
 ghost use Rattle.book.specs.layouts.Allowed.{allowed};
 ghost use Rattle.book.specs.rules.Kinds.{is_open, is_purse};
-ghost use Rattle.book.specs.rules.Periods.{fresh, zeros};
-ghost use Rattle.book.specs.rules.State.{view, pack, added};
+ghost use Rattle.book.specs.rules.State.{view, pack};
+ghost use Rattle.book.specs.rules.Purses.{after_drawing};
 ghost use Rattle.book.specs.rules.Refusals.{barring};
-ghost use Rattle.book.specs.rules.Step.{payout_words, reply};
+ghost use Rattle.book.specs.rules.Step.{reply};
 ghost use Rattle.book.specs.rules.Answers.{replied};
-ghost use Rattle.book.specs.rules.Valid.{Valid};
-ghost use Rattle.book.specs.inner.Ways.{Entered};
+ghost use Rattle.book.specs.inner.Ways.{Entered, NamedAt};
+ghost use Rattle.book.specs.inner.Entering.{Enters};
+ghost use Rattle.book.specs.declared.entries.Entry.TheVariants.{Open, Purse};
 
-use crate::Book;
-use crate::allowed::is_allowed;
-use crate::answers::{Answer, is_accepted};
-use crate::effects::apply_to_period;
+use crate::answers::{Answer, Refusal};
 use crate::entries::Entry;
-use crate::kinds::{is_open, is_purse, is_settle, period_of, purse_cents, purse_of};
-use crate::periods::{fresh_period, is_leaving};
-use crate::places::{has_earlier_arrears, place, with_period, without_period};
-use crate::purses::{draw, drawable_purses, purse_answer};
-use crate::refusals::opening_answer;
+use crate::{Book, Period};
 use exact::{PLACES, put_cells};
 
-// The answer to an entry, the rounds of a settlement, and the book that it leaves.
+// The answer to an entry, the rounds of a settlement, and the book that it leaves: a refused call hands its book back too.
 #[derive(Clone, Copy)]
 pub struct Applied {
     pub answer: Answer,
@@ -31,141 +24,138 @@ pub struct Applied {
     pub book: Book,
 }
 
-// Whether another period refuses the entry (14).
-pub fn is_barred(b: Book, e: Entry) -> bool
-    requires { Valid b × (allowed e ≡ true) }
-    ensures { result ≡ barring e (view b).periods }
-{
-    match e {
-        Entry::Receipt {
-            period,
-            participant,
-            ..
-        } => has_earlier_arrears(b, participant as usize, period),
-        _ => false,
-    }
+// What an accepted entry did: the rounds of a settlement, and the cents paid.
+#[derive(Clone, Copy, Debug, PartialEq, Eq)]
+pub struct Accepted {
+    pub rounds: u64,
+    pub paid: u64,
 }
 
-fn refused(answer: Answer, book: Book) -> Applied
-    ensures { result ≡ record { answer = answer; rounds = 0; book = book } }
-{
-    Applied {
-        answer: answer,
-        rounds: 0,
-        book: book,
+impl Book {
+    // Whether another period refuses the entry (14).
+    fn is_barred(&self, e: Entry) -> bool
+        requires { allowed e ≡ true }
+        ensures { result ≡ barring e (view self.now).periods }
+    {
+        match e {
+            Entry::Receipt {
+                period,
+                participant,
+                ..
+            } => self.has_earlier_arrears(participant as usize, period),
+            _ => false,
+        }
     }
-}
 
-// Opens period k, where 4 to 7 are passed, and pays nothing.
-pub fn with_opened(b: Book, k: u32, words: &mut [u64]) -> Book
-    requires { Valid b × (b.n ≤ length words.old) × (length (view b).periods < b.limits.periods) }
-    ensures { (result ≡ pack (added (view b) (fresh k))) × (words.new ≡ payout_words b.n (zeros places) words.old) }
-{
-    put_cells(words, b.n, [0; PLACES]);
-    let p = fresh_period(k);
-    with_period(b, p)
-}
+    // Opens a period; 4, 5 and 3 are passed.
+    fn open_period(&mut self, period: u32, words: &mut [u64]) -> Result<Accepted, Refusal>
+        requires { Entered (view self.old) (record { entry = Open period; words = words.old }) }
+        ensures { Enters self.old (record { entry = Open period; words = words.old }) result self.new words.new }
+    {
+        let n = self.n;
+        self.opening_answer(period)?;
+        put_cells(words, n, [0; PLACES]);
+        self.add_period(Period::fresh(period));
+        Ok(Accepted { rounds: 0, paid: 0 })
+    }
 
-// Opens a period; 4, 5 and 3 are passed.
-fn open_period(b: Book, e: Entry, words: &mut [u64]) -> Applied
-    requires { Valid b × Entered (view b) (record { entry = e; words = words.old }) × (is_open e ≡ true) }
-    ensures { replied result words.new ≡ reply b (record { entry = e; words = words.old }) }
-{
-    let k = period_of(e);
-    let answer = opening_answer(b, k);
-    if !is_accepted(answer) {
-        return refused(answer, b);
+    // Adds to the purse of i; 4, 5 and 3 are passed.
+    fn raise_purse(&mut self, i: usize, cents: u64, words: &mut [u64]) -> Result<Accepted, Refusal>
+        requires { Entered (view self.old) (record { entry = Purse i cents; words = words.old }) }
+        ensures { Enters self.old (record { entry = Purse i cents; words = words.old }) result self.new words.new }
+    {
+        let n = self.n;
+        self.purse_answer(i, cents)?;
+        put_cells(words, n, [0; PLACES]);
+        self.held += cents;
+        self.purses[i] += cents;
+        Ok(Accepted { rounds: 0, paid: 0 })
     }
-    let next = with_opened(b, k, words);
-    Applied {
-        answer: answer,
-        rounds: 0,
-        book: next,
-    }
-}
 
-// Adds to a purse; 4, 5 and 3 are passed.
-fn raise_purse(mut b: Book, e: Entry, words: &mut [u64]) -> Applied
-    requires { Valid b × Entered (view b) (record { entry = e; words = words.old }) × (is_open e ≡ false) × (is_purse e ≡ true) }
-    ensures { replied result words.new ≡ reply b (record { entry = e; words = words.old }) }
-{
-    let i = purse_of(e);
-    let cents = purse_cents(e);
-    let answer = purse_answer(b, i, cents);
-    if !is_accepted(answer) {
-        return refused(answer, b);
+    // Moves what a settle entry draws from the purses into its period, at place j; other entries draw nothing.
+    fn draw_for(&mut self, e: Entry, j: usize)
+        requires { NamedAt self.old e self.old.n j }
+        ensures { self.new ≡ pack (after_drawing (view self.old) e) }
+    {
+        let n = self.n;
+        if e.is_settle() {
+            let drawable = self.drawable_purses(self.periods[j].number);
+            self.periods[j].draw(&mut self.purses, drawable, n);
+        }
     }
-    put_cells(words, b.n, [0; PLACES]);
-    b.held = b.held + cents;
-    b.purses[i] = b.purses[i] + cents;
-    Applied {
-        answer: answer,
-        rounds: 0,
-        book: b,
-    }
-}
 
-// Changes the period that the entry names; 4, 5 and 3 are passed.
-fn change_named(mut b: Book, e: Entry, words: &mut [u64]) -> Applied
-    requires { Valid b × Entered (view b) (record { entry = e; words = words.old }) × (is_open e ≡ false) × (is_purse e ≡ false) }
-    ensures { replied result words.new ≡ reply b (record { entry = e; words = words.old }) }
-{
-    let j = place(b, period_of(e));
-    if b.count <= j {
-        return refused(Answer::NotInBook, b);
+    // Changes the period that the entry names, at place j; 4, 5, 3 and 8 are passed.
+    fn change_at(&mut self, e: Entry, j: usize, words: &mut [u64]) -> Result<Accepted, Refusal>
+        requires { NamedAt self.old e (length words.old) j }
+        ensures { Enters self.old (record { entry = e; words = words.old }) result self.new words.new }
+    {
+        let n = self.n;
+        let barred = self.is_barred(e);
+        self.draw_for(e, j);
+        let effect = self.apply_to_period(self.periods[j], e, barred, words)?;
+        if effect.period.is_leaving(n) {
+            self.remove_period(j, effect.held);
+        } else {
+            self.held = effect.held;
+            self.periods[j] = effect.period;
+        }
+        Ok(Accepted {
+            rounds: effect.rounds,
+            paid: effect.paid,
+        })
     }
-    let barred = is_barred(b, e);
-    // What a settle entry draws is moved into its period first.
-    if is_settle(e) {
-        let named = b.periods[j];
-        let purses = b.purses;
-        let d = draw(named, purses, drawable_purses(b, named.number), b.n);
-        let moved = d.period;
-        let left = d.purses;
-        b.periods[j] = moved;
-        b.purses = left;
-    }
-    let p = b.periods[j];
-    let grouping = b.grouping;
-    let r = apply_to_period(p, b.n, grouping, e, barred, b.held, words);
-    let q = r.period;
-    let answer = r.answer;
-    if is_leaving(q, b.n) {
-        let next = without_period(b, j, r.held);
-        return Applied {
-            answer: answer,
-            rounds: r.rounds,
-            book: next,
+
+    // Changes the period that the entry names; 4, 5 and 3 are passed. The change is a function of its own: a function sets its locals to
+    // 0 at entry, which an entry refused with 8 would pay for.
+    fn change_named(&mut self, e: Entry, words: &mut [u64]) -> Result<Accepted, Refusal>
+        requires { Entered (view self.old) (record { entry = e; words = words.old }) × (is_open e ≡ false) × (is_purse e ≡ false) }
+        ensures { Enters self.old (record { entry = e; words = words.old }) result self.new words.new }
+    {
+        let Some(j) = self.place(e.period()) else {
+            return Err(Refusal::NotInBook);
         };
+        self.change_at(e, j, words)
     }
-    b.held = r.held;
-    b.periods[j] = q;
-    Applied {
-        answer: answer,
-        rounds: r.rounds,
-        book: b,
+
+    // Enters an entry of any field values in the book, with any number of payout words; a refusal changes neither.
+    pub(crate) fn enter(&mut self, e: Entry, words: &mut [u64]) -> Result<Accepted, Refusal>
+        ensures { Enters self.old (record { entry = e; words = words.old }) result self.new words.new }
+    {
+        if self.n == 0 {
+            return Err(Refusal::NoParticipants);
+        }
+        if words.len() < self.n {
+            return Err(Refusal::FewWords);
+        }
+        if !e.is_allowed() {
+            return Err(Refusal::Outside);
+        }
+        match e {
+            Entry::Open { period } => self.open_period(period, words),
+            Entry::Purse { participant, cents } => self.raise_purse(
+                participant as usize,
+                cents,
+                words,
+            ),
+            _ => self.change_named(e, words),
+        }
     }
 }
 
-// Applies an entry of any field values, with any number of payout words.
-pub fn apply(b: Book, e: Entry, words: &mut [u64]) -> Applied
-    requires { Valid b }
+// The same, for callers that hand the book over.
+pub fn apply(mut b: Book, e: Entry, words: &mut [u64]) -> Applied
     ensures { replied result words.new ≡ reply b (record { entry = e; words = words.old }) }
 {
-    if b.n == 0 {
-        return refused(Answer::NoParticipants, b);
+    match b.enter(e, words) {
+        Ok(accepted) => Applied {
+            answer: Ok(()),
+            rounds: accepted.rounds,
+            book: b,
+        },
+        Err(refusal) => Applied {
+            answer: Err(refusal),
+            rounds: 0,
+            book: b,
+        },
     }
-    if words.len() < b.n {
-        return refused(Answer::FewWords, b);
-    }
-    if !is_allowed(e) {
-        return refused(Answer::Outside, b);
-    }
-    if is_open(e) {
-        return open_period(b, e, words);
-    }
-    if is_purse(e) {
-        return raise_purse(b, e, words);
-    }
-    change_named(b, e, words)
 }

@@ -1,107 +1,41 @@
 // Entries written into lent bytes.
 ghost use Rattle.std.specs.Prelude.{◌≡◌, ◌+◌, ◌≤◌, length, [], ◌∷◌};
 ghost use Rattle.std.proofs.lemmas.List.Edits.{sets};
-ghost use Rattle.book.specs.layouts.Fields.{bytes, field_bytes};
-ghost use Rattle.book.specs.layouts.Entries.{bytes_of, size};
-ghost use Rattle.book.specs.layouts.Writing.{writing, written, write_outcome};
-ghost use Rattle.book.specs.declared.entries.Entry.TheVariants.{Energy, Amount, Receipt, Purse, Washup};
+ghost use Rattle.book.specs.layouts.Fields.{field_bytes};
+ghost use Rattle.book.specs.layouts.Entries.{kind_of, layout, fields_of, size};
+ghost use Rattle.book.specs.layouts.Writing.{writing, written, write_number, write_outcome};
+ghost use Rattle.book.specs.inner.Puts.{width_of, bytes_of_fields};
 
-use crate::allowed::is_allowed;
-use crate::entries::{BODY_LENGTHS, Entry, kind_of};
-use crate::fields::put;
+use crate::entries::Entry;
+use crate::fields::Field::{Byte, Long, Word};
+use crate::fields::{Field, put_fields};
 
-// How many bytes were written, or why none was.
-#[derive(Clone, Copy)]
-pub enum Writing {
-    Wrote(usize),
-    Outside,
-    NoRoom,
+// Why no byte was written: a field outside its values, or too few bytes lent; with the rules' numbers.
+#[derive(Clone, Copy, Debug, PartialEq, Eq)]
+pub enum WriteError {
+    Outside = 3,
+    NoRoom = 5,
 }
 
-// The kind and the period, which every kind but the purse entry begins with.
-fn put_head(out: &mut [u8], kind: u8, period: u32)
-    requires { 5 ≤ length out.old }
-    ensures { out.new ≡ sets out.old 0 (kind ∷ bytes 4 period) }
+impl WriteError {
+    // The number that the rules give it.
+    pub fn number(self) -> u64
+        ensures { result ≡ write_number self }
+    {
+        self as u64
+    }
+}
+
+// The fields of energy and of an amount, which differ in the last two.
+fn put_sided(out: &mut [u8], period: u32, participant: u8, side: u8, next: Field, last: Field)
+    requires { 7 + width_of next + width_of last ≤ length out.old }
+    ensures { out.new ≡ sets out.old 1 (bytes_of_fields (Field.Word period ∷ Field.Byte participant ∷ Field.Byte side ∷ next ∷ last ∷ [])) }
 {
-    out[0] = kind;
-    put(out, 1, 4, period as u64);
+    let fields = [Word(period), Byte(participant), Byte(side), next, last];
+    put_fields(out, &fields);
 }
 
-// A field: its width in bytes and its value.
-#[derive(Clone, Copy)]
-struct Field {
-    width: usize,
-    value: u64,
-}
-
-// The bytes of energy or of an amount, whose last two fields have widths of their own.
-fn put_sided(
-    out: &mut [u8],
-    kind: u8,
-    period: u32,
-    participant: u8,
-    side: u8,
-    next: Field,
-    last: Field,
-)
-    requires { 7 + next.width + last.width ≤ length out.old }
-    ensures { out.new ≡ sets out.old 0 (kind ∷ field_bytes (4 ∷ 1 ∷ 1 ∷ next.width ∷ last.width ∷ []) (period ∷ participant ∷ side ∷ next.value ∷ last.value ∷ [])) }
-{
-    put_head(out, kind, period);
-    put(out, 5, 1, participant as u64);
-    put(out, 6, 1, side as u64);
-    put(out, 7, next.width, next.value);
-    put(out, 7 + next.width, last.width, last.value);
-}
-
-fn put_energy(out: &mut [u8], period: u32, participant: u8, side: u8, quantity: u32, price: u32)
-    requires { 15 ≤ length out.old }
-    ensures { out.new ≡ sets out.old 0 (bytes_of (Energy period participant side quantity price)) }
-{
-    let next = Field {
-        width: 4,
-        value: quantity as u64,
-    };
-    let last = Field {
-        width: 4,
-        value: price as u64,
-    };
-    put_sided(out, 2, period, participant, side, next, last);
-}
-
-fn put_amount(out: &mut [u8], period: u32, participant: u8, side: u8, tier: u8, cents: u64)
-    requires { 16 ≤ length out.old }
-    ensures { out.new ≡ sets out.old 0 (bytes_of (Amount period participant side tier cents)) }
-{
-    let next = Field {
-        width: 1,
-        value: tier as u64,
-    };
-    let last = Field {
-        width: 8,
-        value: cents,
-    };
-    put_sided(out, 3, period, participant, side, next, last);
-}
-
-fn put_receipt(out: &mut [u8], period: u32, participant: u8, cents: u64)
-    requires { 14 ≤ length out.old }
-    ensures { out.new ≡ sets out.old 0 (bytes_of (Receipt period participant cents)) }
-{
-    put_head(out, 5, period);
-    put(out, 5, 1, participant as u64);
-    put(out, 6, 8, cents);
-}
-
-fn put_purse(out: &mut [u8], participant: u8, cents: u64)
-    requires { 10 ≤ length out.old }
-    ensures { out.new ≡ sets out.old 0 (bytes_of (Purse participant cents)) }
-{
-    out[0] = 7;
-    put(out, 1, 1, participant as u64);
-    put(out, 2, 8, cents);
-}
-
+// Apart from `put_body`, which is long enough without this list of fields.
 fn put_washup(
     out: &mut [u8],
     period: u32,
@@ -113,46 +47,49 @@ fn put_washup(
     price: u32,
 )
     requires { 23 ≤ length out.old }
-    ensures { out.new ≡ sets out.old 0 (bytes_of (Washup period earlier participant side old new price)) }
+    ensures { out.new ≡ sets out.old 1 (field_bytes (layout 8) (period ∷ earlier ∷ participant ∷ side ∷ old ∷ new ∷ price ∷ [])) }
 {
-    put_head(out, 8, period);
-    put(out, 5, 4, earlier as u64);
-    put(out, 9, 1, participant as u64);
-    put(out, 10, 1, side as u64);
-    put(out, 11, 4, old as u64);
-    put(out, 15, 4, new as u64);
-    put(out, 19, 4, price as u64);
+    let fields = [
+        Word(period),
+        Word(earlier),
+        Byte(participant),
+        Byte(side),
+        Word(old),
+        Word(new),
+        Word(price),
+    ];
+    put_fields(out, &fields);
 }
 
-// The bytes of an entry, for which there is room.
-fn put_entry(e: Entry, out: &mut [u8])
+// The body of an entry, for which there is room behind the kind.
+fn put_body(e: Entry, out: &mut [u8])
     requires { size e ≤ length out.old }
-    ensures { out.new ≡ sets out.old 0 (bytes_of e) }
+    ensures { out.new ≡ sets out.old 1 (field_bytes (layout (kind_of e)) (fields_of e)) }
 {
     match e {
-        Entry::Open { period } => put_head(out, 1, period),
+        Entry::Open { period } => put_fields(out, &[Word(period)]),
         Entry::Energy {
             period,
             participant,
             side,
             quantity,
             price,
-        } => put_energy(out, period, participant, side, quantity, price),
+        } => put_sided(out, period, participant, side, Word(quantity), Word(price)),
         Entry::Amount {
             period,
             participant,
             side,
             tier,
             cents,
-        } => put_amount(out, period, participant, side, tier, cents),
-        Entry::Notice { period } => put_head(out, 4, period),
+        } => put_sided(out, period, participant, side, Byte(tier), Long(cents)),
+        Entry::Notice { period } => put_fields(out, &[Word(period)]),
         Entry::Receipt {
             period,
             participant,
             cents,
-        } => put_receipt(out, period, participant, cents),
-        Entry::Settle { period } => put_head(out, 6, period),
-        Entry::Purse { participant, cents } => put_purse(out, participant, cents),
+        } => put_fields(out, &[Word(period), Byte(participant), Long(cents)]),
+        Entry::Settle { period } => put_fields(out, &[Word(period)]),
+        Entry::Purse { participant, cents } => put_fields(out, &[Byte(participant), Long(cents)]),
         Entry::Washup {
             period,
             earlier,
@@ -165,18 +102,19 @@ fn put_entry(e: Entry, out: &mut [u8])
     }
 }
 
-// Writes an entry of any field values into the lent bytes, from the first on.
-pub fn write_entry(e: Entry, out: &mut [u8]) -> Writing
+// Writes an entry of any field values into the lent bytes, from the first on, and says how many bytes it takes.
+pub fn write_entry(e: Entry, out: &mut [u8]) -> Result<usize, WriteError>
     ensures { (write_outcome result ≡ writing e (length out.old)) × (out.new ≡ written e out.old) }
 {
-    if !is_allowed(e) {
-        return Writing::Outside;
+    if !e.is_allowed() {
+        return Err(WriteError::Outside);
     }
-    let kind = kind_of(e);
-    let n = BODY_LENGTHS[kind] + 1;
+    let kind = e.kind();
+    let n = 1 + kind.body_length();
     if out.len() < n {
-        return Writing::NoRoom;
+        return Err(WriteError::NoRoom);
     }
-    put_entry(e, out);
-    Writing::Wrote(n)
+    out[0] = kind.number();
+    put_body(e, out);
+    Ok(n)
 }

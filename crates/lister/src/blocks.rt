@@ -8,7 +8,7 @@ ghost use Rattle.lister.specs.declared.blocks.Next.TheVariants.{Again};
 
 use crate::lines::put_line;
 use crate::runs::{Work, list_runs};
-use book::{Book, Reading};
+use book::Book;
 use text::Buffer;
 
 // The bytes of a block of output.
@@ -56,10 +56,8 @@ fn answer_at_front(left: &[u8]) -> u64
     ensures { result ≡ (reading left.now 0).answer }
 {
     match book::read_next(left, 0) {
-        Reading::Found { .. } => 0,
-        Reading::Short => 1,
-        Reading::Unknown => 2,
-        Reading::Outside => 3,
+        Ok(_) => 0,
+        Err(e) => e.number(),
     }
 }
 

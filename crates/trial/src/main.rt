@@ -6,11 +6,9 @@ mod calls;
 mod lines;
 mod makings;
 
-ghost use Rattle.book.specs.rules.Valid.{Valid};
-
 use book::Book;
 use calling::call;
-use calls::{call_at, is_stop, length_of};
+use calls::{NoCall, call_at};
 use lines::Out;
 use std::io::{Read, Write};
 use text::{Buffer, Input, Output};
@@ -25,9 +23,7 @@ fn call_all<R: Read, W: Write>(
     first: Book,
     bytes: &mut Buffer<CALLS>,
     out: &mut Out,
-)
-    requires { Valid first }
-{
+) {
     let mut b = first;
     let mut input = Input::unread();
     let mut output = Output::unwritten();
@@ -35,30 +31,29 @@ fn call_all<R: Read, W: Write>(
     // As many turns as there are numbers of 64 bits but one.
     for _turn in 0..u64::MAX {
         let s = &bytes.bytes()[place..];
-        let c = call_at(s);
-        let length = length_of(c);
-        if length == 0 {
-            if is_stop(c) {
-                break;
+        match call_at(s) {
+            Ok(c) => {
+                b = call(b, c, s, out);
+                output.write_out(to, out.bytes());
+                if !output.is_written() {
+                    break;
+                }
+                place += c.length();
             }
-            bytes.drop_front(place);
-            place = 0;
-            let kept = bytes.len();
-            // Never so: what is kept is a part of a call, and a call is shorter than the room.
-            if CALLS <= kept {
-                break;
+            Err(NoCall::Short) => {
+                bytes.drop_front(place);
+                place = 0;
+                let kept = bytes.len();
+                // Never so: what is kept is a part of a call, and a call is shorter than the room.
+                if CALLS <= kept {
+                    break;
+                }
+                input.read_more(from, bytes);
+                if bytes.len() == kept {
+                    break;
+                }
             }
-            input.read_more(from, bytes);
-            if bytes.len() == kept {
-                break;
-            }
-        } else {
-            b = call(b, c, s, out);
-            output.write_out(to, out.bytes());
-            if !output.is_written() {
-                break;
-            }
-            place += length;
+            Err(NoCall::Unknown) => break,
         }
     }
 }

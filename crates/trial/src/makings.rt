@@ -1,31 +1,18 @@
 // What a call makes a book with.
-ghost use Rattle.std.specs.Prelude.{◌+◌, ◌*◌, ◌≤◌, length};
-ghost use Rattle.settlement.specs.Groups.{group_count};
+ghost use Rattle.std.specs.Prelude.{◌≤◌, length};
 
-use crate::calls::number_at;
+use crate::calls::long_at;
 use book::{Limits, Making};
-use settlement::{GROUPS, Grouping};
-
-// Numbers of the same width, one after the other from a place on: as many as there are groups, or places for participants.
-fn numbers_at(s: &[u8], place: usize, width: usize) -> [u64; GROUPS]
-    requires { (width ≤ 8) × (place + group_count * width ≤ length s.now) }
-{
-    let mut numbers = [0u64; GROUPS];
-    for i in 0..GROUPS {
-        numbers[i] = number_at(s, place + i * width, width);
-    }
-    numbers
-}
+use settlement::Grouping;
+use std::array;
 
 // The groups and reserves of MAKE_GROUPED and MAKE_LIMITED.
 fn grouping_at(s: &[u8]) -> Grouping
     requires { 585 ≤ length s.now }
 {
-    let groups = numbers_at(s, 9, 1);
-    let reserves = numbers_at(s, 73, 8);
     Grouping {
-        groups: groups,
-        reserves: reserves,
+        groups: array::from_fn(|i| u64::from(s[9 + i])),
+        reserves: array::from_fn(|i| long_at(s, 73 + 8 * i)),
     }
 }
 
@@ -33,7 +20,7 @@ fn grouping_at(s: &[u8]) -> Grouping
 fn participants_at(s: &[u8]) -> usize
     requires { 9 ≤ length s.now }
 {
-    number_at(s, 1, 8) as usize
+    long_at(s, 1) as usize
 }
 
 // MAKE: n, groups of one and no reserves, in a market book.
@@ -58,13 +45,11 @@ pub fn grouped_at(s: &[u8]) -> Making
 pub fn limited_at(s: &[u8]) -> Making
     requires { 601 ≤ length s.now }
 {
-    let limits = Limits {
-        participants: number_at(s, 585, 8) as usize,
-        periods: number_at(s, 593, 8) as usize,
-    };
     Making {
-        n: participants_at(s),
-        grouping: grouping_at(s),
-        limits: limits,
+        limits: Limits {
+            participants: long_at(s, 585) as usize,
+            periods: long_at(s, 593) as usize,
+        },
+        ..grouped_at(s)
     }
 }

@@ -10,8 +10,10 @@ use lib.Dec.{eqb, leb}
 use lib.ListN.{length, drop}
 use lib.Seq.{sets, sets-eq}
 use Rattle.book.specs.layouts.Fields.{bytes, fields_at, field_bytes}
-use Rattle.book.specs.layouts.Entries.{body_lengths, body_length, unknown, layout, kind_of, fields_of, entry_of, bytes_of, size}
+use Rattle.book.specs.layouts.Entries.{body_lengths, body_length, unknown, layout, kind_number, kind_of, fields_of, entry_of, bytes_of, size}
 use Rattle.book.specs.declared.entries.Entry.{Entry}
+use Rattle.book.specs.declared.entries.Kind.{Kind}
+use Rattle.book.specs.declared.entries.Kind.TheVariants as kinds
 use Rattle.book.specs.declared.entries.Entry.TheVariants.{Open, Energy, Amount, Notice, Receipt, Settle, Purse, Washup}
 use Rattle.book.proofs.layouts.FieldLaws.{total}
 
@@ -38,6 +40,16 @@ module _ (P : ℕ → Type 0) (p1 : P 1) (p2 : P 2) (p3 : P 3) (p4 : P 4) (p5 : 
       go (suc (suc (suc (suc (suc (suc (suc zero))))))) a b = p7
       go (suc (suc (suc (suc (suc (suc (suc (suc zero)))))))) a b = p8
       go (suc (suc (suc (suc (suc (suc (suc (suc (suc k))))))))) a b = absurd (omega arith)
+
+pub number_known : (kind : Kind) → unknown (kind_number kind) ≡ false
+number_known kinds.Open = refl
+number_known kinds.Energy = refl
+number_known kinds.Amount = refl
+number_known kinds.Notice = refl
+number_known kinds.Receipt = refl
+number_known kinds.Settle = refl
+number_known kinds.Purse = refl
+number_known kinds.Washup = refl
 
 pub kind_known : (e : Entry) → unknown (kind_of e) ≡ false
 kind_known (Open _) = refl
@@ -79,14 +91,8 @@ fields_again s place = each_kind (λ k. fields_of (entry_of k (fields_at (layout
 pub layout_total : (kind : ℕ) → unknown kind ≡ false → total (layout kind) ≡ body_length kind
 layout_total = each_kind (λ k. total (layout k) ≡ body_length k) refl refl refl refl refl refl refl refl
 
-pub kind_lt : (e : Entry) → kind_of e < length body_lengths
-kind_lt e = (known (kind_of e) (kind_known e)).1
-
 pub body_le : (kind : ℕ) → unknown kind ≡ false → body_length kind ≤ 255
 body_le = each_kind (λ k. body_length k ≤ 255) (omega arith) (omega arith) (omega arith) (omega arith) (omega arith) (omega arith) (omega arith) (omega arith)
-
-pub size_le : (e : Entry) → size e ≤ 256
-size_le e = omega (arith, body_le (kind_of e) (kind_known e))
 
 pub bytes_size : (e : Entry) → length (bytes_of e) ≡ size e
 unfolding bytes_of field_bytes bytes

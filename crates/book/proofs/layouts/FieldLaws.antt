@@ -1,32 +1,15 @@
 -- Laws of little-endian fields, over any width, and of fields one after the other.
 use mathlib.Core.Path.{◌≡◌, refl, sym, ap, ap₂, ◌∙◌}
 use mathlib.Core.List.{List, [], ◌∷◌, ◌++◌, append_assoc}
-use Prim.Native.Nat.{ℕ, zero, suc, ◌+◌, ◌-◌, ◌*◌, ◌/◌, ◌%◌, ◌^◌, ◌≤◌, ◌<◌}
-use native.Mathlib.Nat.{pow-suc, add-suc, suc-add, add-zero, zero-add}
+use Prim.Native.Nat.{ℕ, zero, suc, ◌+◌, ◌*◌, ◌/◌, ◌%◌, ◌^◌, ◌≤◌, ◌<◌}
+use native.Mathlib.Nat.{pow-suc, add-zero, zero-add}
 use native.Mathlib.Numerals.{add-one}
 use native.Mathlib.Omega.{arith}
-use lib.ListN.{length, get_or, set, take, drop}
-use lib.Seq.{sets, get_or-drop, drop-drop, drop-cons, drop_at, take-add}
+use lib.ListN.{length, get_or, take, drop, get_or-append, length-drop}
+use lib.Seq.{get_or-drop, drop-drop, drop-cons, drop_at, take-add}
+use Rattle.std.specs.Int.{w8, w32, w64, from_le_bytes}
+use Rattle.std.proofs.lemmas.List.{take-append-drop, length-take-le}
 use Rattle.book.specs.layouts.Fields.{value_at, bytes, fields_at, field_bytes, Fit}
-
-pub value_none : (s : List ℕ) (place : ℕ) → 0 ≡ value_at 0 s place
-unfolding value_at
-value_none s place = refl
-
--- one more byte in front
-value_more : (s : List ℕ) (place k : ℕ) → get_or s place 0 + 256 * value_at k s (place + 1) ≡ value_at (k + 1) s place
-unfolding value_at
-value_more s place k = rw (add-one k)
-
--- a turn of the loop that reads a field from its last byte down: i bytes are not yet read of k
-pub value_step : (s : List ℕ) (place k i v w : ℕ) → 0 < i → i ≤ k → v ≡ value_at (k - i) s (place + i) → v < 256 ^ (k - i)
-    → w ≡ get_or s (place + (i - 1)) 0 → w < 256
-    → (v * 256 + w ≡ value_at (k - (i - 1)) s (place + (i - 1))) × (v * 256 + w < 256 ^ (k - (i - 1)))
-value_step s place k i v w some h e less f small =
-    let e1 : place + (i - 1) + 1 ≡ place + i = omega arith in
-    let e2 : k - i + 1 ≡ k - (i - 1) = omega arith in
-    let p : 256 ^ (k - i + 1) ≡ 256 ^ (k - i) * 256 = rw add-one (pow-suc 256 (k - i)) in
-    rw (← e2) (rw (← value_more s (place + (i - 1)) (k - i), e1) (omega arith), omega arith)
 
 -- a field is read of what stands from its place on
 pub value_drop : (k : ℕ) (s : List ℕ) (place : ℕ) → value_at k s place ≡ value_at k (drop place s) 0
@@ -36,6 +19,30 @@ value_drop (suc k) s place =
     let a : get_or (drop place s) 0 0 ≡ get_or s place 0 = rw (get_or-drop, add-zero) in
     let b : value_at k (drop place s) 1 ≡ value_at k s (place + 1) = value_drop k (drop place s) 1 ∙ rw drop-drop (sym (value_drop k s (place + 1))) in
     rw (a, b)
+
+-- nor what stands behind it
+pub value_before : (k : ℕ) (s more : List ℕ) (place : ℕ) → place + k ≤ length s → value_at k (s ++ more) place ≡ value_at k s place
+unfolding value_at
+value_before zero s more place h = refl
+value_before (suc k) s more place h = ap₂ (λ (x y : ℕ). x + 256 * y) (get_or-append s more 0 place (omega arith)) (value_before k s more (place + 1) (omega arith))
+
+-- the number in the first k bytes is that in those alone
+value_taken : (k : ℕ) (s : List ℕ) → k ≤ length s → value_at k (take k s) 0 ≡ value_at k s 0
+value_taken k s h =
+    sym (value_before k (take k s) (drop k s) 0 (omega (arith, length-take-le k s h))) ∙ ap (λ (l : List ℕ). value_at k l 0) (take-append-drop k s)
+
+-- the library's number of the first 1, 4 or 8 bytes
+pub byte_taken : (s : List ℕ) → 1 ≤ length s → from_le_bytes w8 (take 1 s) ≡ value_at 1 s 0
+unfolding value_at
+byte_taken s h = omega (arith, value_taken 1 s h)
+
+pub word_taken : (s : List ℕ) → 4 ≤ length s → from_le_bytes w32 (take 4 s) ≡ value_at 4 s 0
+unfolding value_at
+word_taken s h = omega (arith, value_taken 4 s h)
+
+pub long_taken : (s : List ℕ) → 8 ≤ length s → from_le_bytes w64 (take 8 s) ≡ value_at 8 s 0
+unfolding value_at
+long_taken s h = omega (arith, value_taken 8 s h)
 
 pub bytes_length : (k v : ℕ) → length (bytes k v) ≡ k
 unfolding bytes
@@ -63,33 +70,6 @@ bytes_value (suc k) s place small h =
     let high : (b + 256 * n) / 256 ≡ n = omega (arith, small place) in
     rw (low, high, bytes_value k s (place + 1) small (omega arith), add-one place, drop-cons s place 0 (omega arith))
 
--- the loop that puts a field: the bytes still to be put, and none at the end
-pub put_step : (o : List ℕ) (j m r : ℕ) → sets o j (bytes (m + 1) r) ≡ sets (set o j (r % 256)) (j + 1) (bytes m (r / 256))
-unfolding bytes
-put_step o j m r = rw (add-one m, add-one j)
-
-pub put_none : (o : List ℕ) (j r : ℕ) → sets o j (bytes 0 r) ≡ o
-unfolding bytes
-put_none o j r = refl
-
--- what is put after a field
-put_more : (k : ℕ) (o : List ℕ) (j v : ℕ) (rest : List ℕ) → sets o j (bytes k v ++ rest) ≡ sets (sets o j (bytes k v)) (j + k) rest
-unfolding bytes
-put_more zero o j v rest = rw add-zero
-put_more (suc k) o j v rest = rw (put_more k (set o j (v % 256)) (suc j) (v / 256) rest, add-suc, suc-add)
-
--- fields put one after the other
-abbrev pub puts : List ℕ → List ℕ → List ℕ → ℕ → List ℕ
-puts [] vs o j = o
-puts (w ∷ ws) [] o j = o
-puts (w ∷ ws) (v ∷ vs) o j = puts ws vs (sets o j (bytes w v)) (j + w)
-
-pub put_fields : (ws vs o : List ℕ) (j : ℕ) → sets o j (field_bytes ws vs) ≡ puts ws vs o j
-unfolding field_bytes
-put_fields [] vs o j = refl
-put_fields (w ∷ ws) [] o j = refl
-put_fields (w ∷ ws) (v ∷ vs) o j = put_more w o j v (field_bytes ws vs) ∙ put_fields ws vs (sets o j (bytes w v)) (j + w)
-
 -- how many bytes fields take
 abbrev pub total : List ℕ → ℕ
 total [] = 0
@@ -100,6 +80,24 @@ unfolding fields_at
 fields_drop [] s place = refl
 fields_drop (w ∷ ws) s place =
     ap₂ ◌∷◌ (value_drop w s place) (fields_drop ws s (place + w) ∙ rw (← drop-drop, zero-add w) (sym (fields_drop ws (drop place s) w)))
+
+pub fields_before : (ws s more : List ℕ) (place : ℕ) → place + total ws ≤ length s → fields_at ws (s ++ more) place ≡ fields_at ws s place
+unfolding fields_at
+fields_before [] s more place h = refl
+fields_before (w ∷ ws) s more place h = ap₂ ◌∷◌ (value_before w s more place (omega arith)) (fields_before ws s more (place + w) (omega arith))
+
+-- fields are read of their own bytes alone
+pub fields_taken : (ws s : List ℕ) (place n : ℕ) → n ≡ total ws → place + n ≤ length s → fields_at ws (take n (drop place s)) 0 ≡ fields_at ws s place
+fields_taken ws s place n e h =
+    let rest : List ℕ = drop place s in
+    sym (fields_before ws (take n rest) (drop n rest) 0 (omega (arith, length-take-le n rest (omega (arith, length-drop place s)), length-drop place s)))
+    ∙ ap (λ (l : List ℕ). fields_at ws l 0) (take-append-drop n rest)
+    ∙ sym (fields_drop ws s place)
+
+-- fields are read one after the other, each from the front of what the one before leaves
+pub fields_next : (w : ℕ) (ws s : List ℕ) → fields_at (w ∷ ws) s 0 ≡ value_at w s 0 ∷ fields_at ws (drop w s) 0
+unfolding fields_at
+fields_next w ws s = ap (λ (l : List ℕ). value_at w s 0 ∷ l) (rw zero-add (fields_drop ws s w))
 
 -- fields that were put are read, whatever follows
 pub fields_bytes : (ws vs after : List ℕ) → Fit ws vs → fields_at ws (field_bytes ws vs ++ after) 0 ≡ vs

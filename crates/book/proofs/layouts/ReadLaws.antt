@@ -1,6 +1,6 @@
 -- Reading in a part of the bytes: from a place on, and before other bytes.
-use Prim.Native.Nat.{ℕ, zero, suc, ◌+◌, ◌*◌, ◌≤◌, ◌<◌}
-use mathlib.Core.Path.{◌≡◌, refl, sym, ap, ap₂, ◌∙◌}
+use Prim.Native.Nat.{ℕ, ◌+◌, ◌≤◌, ◌<◌}
+use mathlib.Core.Path.{◌≡◌, refl, sym, ap, ◌∙◌}
 use mathlib.Core.Bool.{Bool, true, false, cond, not}
 use mathlib.Core.List.{List, [], ◌∷◌, ◌++◌}
 use mathlib.Core.Logic.{◌⊎◌, inl, inr, ⊎_elim}
@@ -11,13 +11,13 @@ use lib.ListN.{get_or, length, drop, length-append, length-drop, get_or-append}
 use lib.Seq.{get_or-drop, drop-drop}
 use Rattle.exact.proofs.Cases.{cases_eq, le_or_lt}
 use Rattle.book.specs.Checks.{refusal}
-use Rattle.book.specs.layouts.Fields.{value_at, fields_at}
+use Rattle.book.specs.layouts.Fields.{fields_at}
 use Rattle.book.specs.layouts.Entries.{body_length, unknown, layout, entry_of}
 use Rattle.book.specs.layouts.Allowed.{allowed}
 use Rattle.book.specs.layouts.Reading.{ReadOutcome, kind_at, next_place, entry_at, read_checks, reading}
 use Rattle.book.specs.declared.entries.Entry.{Entry}
 use Rattle.book.proofs.rules.CheckLaws.{all_pass}
-use Rattle.book.proofs.layouts.FieldLaws.{total, fields_drop}
+use Rattle.book.proofs.layouts.FieldLaws.{fields_drop, fields_before}
 use Rattle.book.proofs.layouts.EntryLaws.{layout_total, body_le}
 
 -- the tests of the checks decide the answer
@@ -128,16 +128,6 @@ read_within s place e = cases_eq
 
 -- bytes that are not short are read alike whatever follows them
 module _ (s more : List ℕ) where
-  value_before : (w k : ℕ) → k + w ≤ length s → value_at w (s ++ more) k ≡ value_at w s k
-  unfolding value_at
-  value_before zero k h = refl
-  value_before (suc w) k h = ap₂ (λ (x y : ℕ). x + 256 * y) (get_or-append s more 0 k (omega arith)) (value_before w (k + 1) (omega arith))
-
-  fields_before : (ws : List ℕ) (k : ℕ) → k + total ws ≤ length s → fields_at ws (s ++ more) k ≡ fields_at ws s k
-  unfolding fields_at
-  fields_before [] k h = refl
-  fields_before (w ∷ ws) k h = ap₂ ◌∷◌ (value_before w k (omega arith)) (fields_before ws (k + w) (omega arith))
-
   module _ (long : (reading s 0).answer ≡ 1 → ⊥) where
     some : 0 < length s
     some = ⊎_elim
@@ -177,7 +167,7 @@ module _ (s more : List ℕ) where
     entry_before known =
         let k = kind_at s 0 in
         ap (λ (j : ℕ). entry_of j (fields_at (layout j) (s ++ more) 1)) kind_before
-        ∙ ap (entry_of k) (fields_before (layout k) 1 (omega (arith, layout_total k known, body_there known)))
+        ∙ ap (entry_of k) (fields_before (layout k) s more 1 (omega (arith, layout_total k known, body_there known)))
 
     known_before : unknown (kind_at s 0) ≡ false → reading (s ++ more) 0 ≡ reading s 0
     unfolding reading

@@ -7,6 +7,7 @@ use mathlib.Core.List.{List}
 use native.Mathlib.Omega.{arith}
 use borrow.Author.Tests.{eq-eqb, ne_eqb}
 use lib.Dec.{eqb}
+use Rattle.std.proofs.Common.{Result, Ok, Err}
 use lib.ListN.{get_or, set}
 use lib.Seq.{set-get_or}
 use Rattle.exact.specs.Rows.{at, sum}
@@ -20,7 +21,10 @@ use Rattle.book.specs.rules.Purses.{purses_after, after_drawing}
 use Rattle.book.specs.rules.Refusals.{period_checks, barring}
 use Rattle.book.specs.rules.Step.{payout_words, Reply, reply, paid_by}
 use Rattle.book.specs.rules.Valid.{Sound}
+use Rattle.book.specs.rules.Answers.{number_of}
 use Rattle.book.specs.inner.OnePeriod.{Effect, effect, effect_of, Affects}
+use Rattle.book.specs.inner.Entering.{Enters}
+use Rattle.book.specs.declared.answers.Refusal.{Refusal}
 use Rattle.book.specs.declared.effects.Effect as effects
 use Rattle.book.specs.declared.entries.Entry.{Entry}
 use Rattle.book.specs.declared.Period.{Period}
@@ -171,19 +175,28 @@ module _ {b : Book} {e : Entry} {w : List ℕ} {j : ℕ} (f : Found b e w j) whe
 abbrev pub Drawn : (s : Book) (e : Entry) (j : ℕ) (b : Book) → Type 0
 Drawn s e j b = b ≡ put s j (found_period s e) s.held (purses_after (view s) e)
 
-abbrev pub Affected : (s : Book) (e : Entry) (w : List ℕ) (r : effects.Effect) (after : List ℕ) → Type 0
-Affected s e w r after = effect_of r after ≡ effect s.n s.grouping e (barring e (view s).periods) (found_period s e) s.held w
+abbrev pub Affected : (s : Book) (e : Entry) (w : List ℕ) (r : Result effects.Effect Refusal) (after : List ℕ) → Type 0
+Affected s e w r after = effect_of (found_period s e) s.held r after ≡ effect s.n s.grouping e (barring e (view s).periods) (found_period s e) s.held w
 
-pub affected : {s : Book} {e : Entry} {w : List ℕ} {j : ℕ} (f : Found s e w j) (b : Book) (barred : Bool) (r : effects.Effect) (after : List ℕ)
+pub affected : {s : Book} {e : Entry} {w : List ℕ} {j : ℕ} (f : Found s e w j) (b : Book) (barred : Bool) (r : Result effects.Effect Refusal) (after : List ℕ)
     → barred ≡ barring e (view s).periods → Drawn s e j b
-    → effect_of r after ≡ effect b.n b.grouping e barred (get_or b.periods j no_period) b.held w → Affected s e w r after
+    → effect_of (get_or b.periods j no_period) b.held r after ≡ effect b.n b.grouping e barred (get_or b.periods j no_period) b.held w → Affected s e w r after
 affected f b barred r after same d q = rw (same, d, drawn_read f) at q
 
--- what is left in the book: the period was taken out, or put back over what was drawn
-module _ {s : Book} {e : Entry} {w : List ℕ} {j : ℕ} (f : Found s e w j) {b : Book} (d : Drawn s e j b) (r : effects.Effect) (after : List ℕ) (k : Affected s e w r after) where
-  pub taken_out : leaves b.n r.period ≡ true → (left : Book) → left ≡ pack (removed (view b) j) → left ≡ (reply s (record { entry = e; words = w })).book
-  taken_out l left q =
-      (rw d at q) ∙ ap (λ (x : State). pack (removed x j)) (drawn_view f) ∙ ap (λ (x : Reply). x.book) (reply_leaves f _ k (rw d at l))
+-- what is left of the book: all of it where the entry is refused, else the period was taken out, or put back over what was drawn
+module _ {s : Book} {e : Entry} {w : List ℕ} {j : ℕ} (f : Found s e w j) {b : Book} (d : Drawn s e j b) where
+  pub left_alone : (why : Refusal) (after : List ℕ) → Affected s e w (Err why) after → Enters s (record { entry = e; words = w }) (Err why) b after
+  left_alone why after k =
+      ((λ z. record { answer = number_of (Err why); rounds = 0; book = d z; words = after }) ∙ reply_stays f _ k (found_in_book f).stays, reply_paid f _ k)
 
-  pub put_back : leaves b.n r.period ≡ false → put b j r.period r.held b.purses ≡ (reply s (record { entry = e; words = w })).book
-  put_back l = stored_over f d r.period r.held ∙ ap (λ (x : Reply). x.book) (reply_stays f _ k (rw d at l))
+  module _ (r : effects.Effect) (after : List ℕ) (k : Affected s e w (Ok r) after) where
+    pub taken_out : leaves s.n r.period ≡ true → (left : Book) → left ≡ pack (removed (view b) j)
+        → Enters s (record { entry = e; words = w }) (Ok (record { rounds = r.rounds; paid = r.paid })) left after
+    taken_out l left q =
+        let same = (rw d at q) ∙ ap (λ (x : State). pack (removed x j)) (drawn_view f) in
+        ((λ z. record { answer = 0; rounds = r.rounds; book = same z; words = after }) ∙ reply_leaves f _ k l, reply_paid f _ k)
+
+    pub put_back : leaves s.n r.period ≡ false
+        → Enters s (record { entry = e; words = w }) (Ok (record { rounds = r.rounds; paid = r.paid })) (put b j r.period r.held b.purses) after
+    put_back l =
+        ((λ z. record { answer = 0; rounds = r.rounds; book = stored_over f d r.period r.held z; words = after }) ∙ reply_stays f _ k l, reply_paid f _ k)

@@ -33,7 +33,7 @@ use Rattle.book.proofs.rules.DrawingLaws.{settling, settle_finds, settles_passes
 use Rattle.book.proofs.records.Packing.{count_is, read_at, kept_held, renewed, put, stored}
 use Rattle.book.proofs.records.Bounds.{held_bound, holds_within}
 use Rattle.book.proofs.records.Replies.{to_period}
-use Rattle.book.specs.inner.Ways.{Entered}
+use Rattle.book.specs.inner.Ways.{Entered, NamedAt}
 
 -- a receipt's cents are within their limit
 pub cents_within : (e : Entry) → allowed e ≡ true → receipt_cents e ≤ cents_limit
@@ -50,6 +50,16 @@ pub record Found (b : Book) (e : Entry) (w : List ℕ) (j : ℕ) : Type 0 where
   pub not_purse : is_purse e ≡ false
   pub at_place : j ≡ find (period_of e) (view b).periods
   pub used : j < b.count
+
+pub named_entry : {b : Book} {e : Entry} {j : ℕ} (w : List ℕ) → Valid b → NamedAt b e (length w) j → Found b e w j
+named_entry w v m = record {
+  valid = v;
+  entered = record { some = m.some; enough = m.enough; fields = m.fields };
+  not_open = m.not_open;
+  not_purse = m.not_purse;
+  at_place = m.at_place;
+  used = m.used;
+}
 
 -- the period as the entry finds it, once what it draws has been moved
 abbrev pub found_period : Book → Entry → Period
@@ -169,7 +179,7 @@ module _ {b : Book} {e : Entry} {w : List ℕ} {j : ℕ} (f : Found b e w j) whe
       (subst (λ k. take k (periods_after (view b) e) ++ found_period b e ∷ drop (suc k) (periods_after (view b) e) ≡ periods_after (view b) e) (sym (found_place f))
       (sym (find_split (period_of e) (periods_after (view b) e) (omega (arith, found_place f, found_within f)))))
 
-  drawn_book : put b j (found_period b e) b.held (purses_after (view b) e) ≡ pack (after_drawing (view b) e)
+  pub drawn_book : put b j (found_period b e) b.held (purses_after (view b) e) ≡ pack (after_drawing (view b) e)
   drawn_book =
       let q = sym (stores (found_period b e)) ∙ same in
       stored f.valid j (found_period b e) b.held (purses_after (view b) e) f.used (sym (ap held_by q ∙ found_held f)) ∙ ap pack q

@@ -1,20 +1,19 @@
 -- The program's record and its state: what a store, a new period and a period that leaves do to both.
-use Prim.Native.Nat.{ℕ, zero, suc, ◌+◌, ◌-◌, ◌≤◌, ◌<◌, min}
+use Prim.Native.Nat.{ℕ, suc, ◌+◌, ◌-◌, ◌≤◌, ◌<◌}
 use mathlib.Core.Path.{◌≡◌, refl, sym, ap, ap₂, subst, ◌∙◌}
-use mathlib.Core.Logic.{⊎_elim}
 use mathlib.Core.List.{List, [], ◌∷◌, ◌++◌, append_assoc}
-use mathlib.Core.Bool.{true, false, cond}
+use mathlib.Core.Bool.{true, false, cond, ◌||◌}
 use native.Mathlib.Numerals.{add-one}
 use native.Mathlib.Omega.{arith}
-use borrow.Author.Tests.{eq-eqb, ne_eqb}
-use lib.Dec.{ltb}
-use lib.ListN.{length, get_or, take, drop, set, replicate, length-append, length-set, drop_of_length-le, get_or-replicate}
-use lib.Seq.{split_at, set_split, set-append_left, set-append_seam, set_at, get_or-take, length-take-le, drop-cons, get_or-append-add}
-use Rattle.exact.proofs.Cases.{cases, le_or_lt}
+use lib.ListN.{length, length-replicate, get_or, take, drop, set, replicate, length-append, length-set}
+use lib.Seq.{take-append_seam, drop-append-add, split_at, set_split, set-append_left, set-append_seam, set_at, get_or-take, length-take-le}
+use Rattle.std.specs.List.{remove, list_any}
+use Rattle.std.proofs.lemmas.List.{replicate-append-replicate}
+use Rattle.std.proofs.lemmas.List.Recursion.{same_from_clauses}
 use Rattle.settlement.specs.declared.groups.Grouping.{Grouping}
 use Rattle.book.specs.rules.Periods.{fresh, raised}
 use Rattle.book.specs.rules.Limits.{period_places}
-use Rattle.book.specs.rules.State.{State, view, pack, cents_held, held_by, find, no_period, arrears_before, earlier_arrears, replaced, removed, added, with_periods, with_purses}
+use Rattle.book.specs.rules.State.{State, view, pack, cents_held, held_by, no_period, arrears_before, earlier_arrears, replaced, removed, added, with_periods, with_purses}
 use Rattle.book.specs.rules.Valid.{InBook, Valid}
 use Rattle.book.specs.declared.limits.Limits.{Limits}
 use Rattle.book.specs.declared.Period.{Period}
@@ -22,13 +21,11 @@ use Rattle.book.specs.declared.Book.{Book}
 use Rattle.book.proofs.rules.LimitLaws.{few_places}
 use Rattle.book.proofs.rules.ListLaws.{all_at}
 
-found_later : (m : ℕ) (p : Period) {l : List Period} (r : List Period) → (p.number ≡ m → ⊥) → l ≡ p ∷ r → find m l ≡ suc (find m r)
-unfolding find
-found_later m p r ne e = rw (e, ne_eqb p.number m ne)
-
-blank_no_arrears : (i m : ℕ) → arrears_before i m (fresh 0) ≡ false
-unfolding arrears_before fresh
-blank_no_arrears i m = cases (λ t. t ≡ false) (ltb 0 m) (λ _. refl) (λ _. refl)
+-- an earlier period that has arrears is one of those that the search tests
+pub earlier_any : (i m : ℕ) (ps : List Period) → list_any (arrears_before i m) ps ≡ earlier_arrears i m ps
+unfolding earlier_arrears
+earlier_any i m = same_from_clauses (list_any (arrears_before i m)) (earlier_arrears i m) (λ p t. arrears_before i m p || t) refl (λ _ _. refl)
+    (λ p ps. elim (arrears_before i m p) as (λ t. cond t true (earlier_arrears i m ps) ≡ (t || earlier_arrears i m ps)) [ true ↦ refl | false ↦ refl ])
 
 module _ {b : Book} (v : Valid b) where
   pub count_is : b.count ≡ length (view b).periods
@@ -49,93 +46,6 @@ module _ {b : Book} (v : Valid b) where
 
     pub read_in_book : InBook b.n b.grouping (get_or b.periods k no_period)
     read_in_book = subst (InBook b.n b.grouping) (sym read_at) (all_at (InBook b.n b.grouping) (view b).periods k no_period (omega (arith, count_is)) v.fit.each)
-
-  -- a place that is not in use
-  pub read_blank : (k : ℕ) → b.count ≤ k → k < period_places → get_or b.periods k no_period ≡ fresh 0
-  unfolding pack
-  read_blank k h l =
-      let ps = (view b).periods in
-      let e : k ≡ length ps + (k - length ps) = omega (arith, count_is) in
-      ap₂ (λ (x : Book) j. get_or x.periods j no_period) v.packed e
-      ∙ get_or-append-add ps (replicate (period_places - length ps) (fresh 0)) (k - length ps) no_period
-      ∙ get_or-replicate (period_places - length ps) (k - length ps) (fresh 0) no_period (omega (arith, count_is))
-
-  -- what is left from a place on
-  view_more : (k : ℕ) → k < b.count → drop k (view b).periods ≡ get_or b.periods k no_period ∷ drop (k + 1) (view b).periods
-  view_more k h = rw (read_at k h, add-one) (drop-cons (view b).periods k no_period (omega (arith, count_is)))
-
-  view_end : (k : ℕ) → b.count ≤ k → drop k (view b).periods ≡ []
-  view_end k h = drop_of_length-le (view b).periods (let l : length (view b).periods ≤ k = omega (arith, count_is) in l)
-
-  find_end : (k m : ℕ) → b.count ≤ k → find m (drop k (view b).periods) ≡ 0
-  unfolding find
-  find_end k m h = rw (view_end k h)
-
-  -- the search and the scan, one place at a time; in a place not in use there is nothing to be found
-  module _ (k : ℕ) where
-    pub find_here : (m : ℕ) → (get_or b.periods k no_period).number ≡ m → find m (drop k (view b).periods) ≡ 0
-    unfolding find
-    find_here m e =
-        ⊎_elim (λ h. find_end k m h) (λ h. rw (view_more k h, eq-eqb (get_or b.periods k no_period).number m e)) (le_or_lt b.count k)
-
-    pub find_past : (m : ℕ) → ((get_or b.periods k no_period).number ≡ m → ⊥)
-        → min k b.count + find m (drop k (view b).periods) ≡ min (k + 1) b.count + find m (drop (k + 1) (view b).periods)
-    find_past m e =
-        ⊎_elim (λ h. omega (arith, find_end k m h, find_end (k + 1) m (omega arith))) (λ h. omega (arith, more h)) (le_or_lt b.count k)
-      where
-        more : k < b.count → find m (drop k (view b).periods) ≡ suc (find m (drop (k + 1) (view b).periods))
-        more h = found_later m (get_or b.periods k no_period) (drop (k + 1) (view b).periods) e (view_more k h)
-
-    pub find_nowhere : (m : ℕ) → period_places ≤ k → find m (drop k (view b).periods) ≡ 0
-    find_nowhere m h = find_end k m (omega (arith, count_few))
-
-    pub earlier_more : (i m : ℕ) → k < period_places → earlier_arrears i m (drop k (view b).periods)
-        ≡ cond (arrears_before i m (get_or b.periods k no_period)) true (earlier_arrears i m (drop (k + 1) (view b).periods))
-    unfolding earlier_arrears
-    earlier_more i m l = ⊎_elim
-        (λ h. rw (view_end k h, view_end (k + 1) (omega arith), read_blank k h l, blank_no_arrears i m))
-        (λ h. rw (view_more k h))
-        (le_or_lt b.count k)
-
-    pub earlier_end : (i m : ℕ) → period_places ≤ k → earlier_arrears i m (drop k (view b).periods) ≡ false
-    unfolding earlier_arrears
-    earlier_end i m h = rw (view_end k (omega (arith, count_few)))
-
--- later periods move down by one place, m of them from place k on
-pub slide : List Period → ℕ → ℕ → List Period
-slide l k zero = l
-slide l k (suc m) = slide (set l k (get_or l (k + 1) no_period)) (k + 1) m
-
-slide_suc : (l : List Period) (k m : ℕ) → slide l k (suc m) ≡ slide (set l k (get_or l (k + 1) no_period)) (k + 1) m
-unfolding slide
-slide_suc l k m = refl
-
-pub slide_more : (l : List Period) (k last : ℕ) → k < last → slide l k (last - k) ≡ slide (set l k (get_or l (k + 1) no_period)) (k + 1) (last - (k + 1))
-unfolding slide
-slide_more l k last h = rw (let e : last - k ≡ suc (last - (k + 1)) = omega arith in e)
-
-pub slide_end : (l : List Period) (k last : ℕ) → last ≤ k → slide l k (last - k) ≡ l
-unfolding slide
-slide_end l k last h = rw (let e : last - k ≡ 0 = omega arith in e)
-
--- the last of a list with x before it
-abbrev final : Period → List Period → Period
-final x [] = x
-final x (y ∷ ys) = final y ys
-
-slid : (ys rest pre : List Period) (x : Period) (k : ℕ) → length pre ≡ k → slide (pre ++ x ∷ (ys ++ rest)) k (length ys) ≡ pre ++ (ys ++ final x ys ∷ rest)
-unfolding slide
-slid [] rest pre x k e = refl
-slid (y ∷ ys) rest pre x k e =
-    slide_suc (pre ++ x ∷ y ∷ (ys ++ rest)) k (length ys)
-    ∙ rw (
-      ← e,
-      get_or-append-add pre (x ∷ y ∷ (ys ++ rest)) 1 no_period,
-      set_at pre x (y ∷ (ys ++ rest)) y (length pre) refl,
-      ← append_assoc pre (y ∷ []) (y ∷ (ys ++ rest)),
-      ← append_assoc pre (y ∷ []) (ys ++ final y ys ∷ rest),
-    )
-    (slid ys rest (pre ++ (y ∷ [])) y (length pre + 1) (length-append pre (y ∷ [])))
 
 -- the record with other cents held, in as many periods, and other purses
 abbrev pub renewed : Book → ℕ → List Period → List ℕ → Book
@@ -174,7 +84,7 @@ drops b j held = record {
   highest = b.highest;
   count = b.count - 1;
   held = held;
-  periods = set (slide b.periods j (b.count - 1 - j)) (b.count - 1) (fresh 0);
+  periods = set (remove b.periods j ++ get_or b.periods j no_period ∷ []) (period_places - 1) (fresh 0);
   purses = b.purses;
 }
 
@@ -209,15 +119,17 @@ module _ (n : ℕ) (grouping : Grouping) (limits : Limits) (highest : ℕ) (purs
   count_one : length (pre ++ x ∷ ys) ≡ suc (length pre + length ys)
   count_one = length-append pre (x ∷ ys) ∙ omega arith
 
-  left_rows : set (slide ((pre ++ x ∷ ys) ++ replicate (period_places - length (pre ++ x ∷ ys)) (fresh 0)) (length pre) (length (pre ++ x ∷ ys) - 1 - length pre)) (length (pre ++ x ∷ ys) - 1) (fresh 0)
+  left_rows : (w : Period) → set (remove ((pre ++ x ∷ ys) ++ replicate (period_places - length (pre ++ x ∷ ys)) (fresh 0)) (length pre) ++ w ∷ []) (period_places - 1) (fresh 0)
       ≡ (pre ++ ys) ++ replicate (period_places - length (pre ++ ys)) (fresh 0)
-  left_rows =
-      let r = replicate (period_places - length (pre ++ x ∷ ys)) (fresh 0) in
-      let e : length (pre ++ x ∷ ys) - 1 - length pre ≡ length ys = omega (arith, count_one) in
-      let d : length (pre ++ x ∷ ys) - 1 ≡ length (pre ++ ys) = omega (arith, count_one, length-append pre ys) in
-      let m : period_places - length (pre ++ ys) ≡ suc (period_places - length (pre ++ x ∷ ys)) = omega (arith, count_one, length-append pre ys) in
-      rw (e, d, m, append_assoc pre (x ∷ ys) r)
-      (rw (slid ys r pre x (length pre) refl, ← append_assoc pre ys) (set_at (pre ++ ys) _ r (fresh 0) (length (pre ++ ys)) refl))
+  left_rows w =
+      let blanks = period_places - length (pre ++ x ∷ ys) in
+      let r = replicate blanks (fresh 0) in
+      let one_less = length-append pre ys in
+      let m : period_places - length (pre ++ ys) ≡ blanks + 1 = omega (arith, count_one, one_less) in
+      let size : length ((pre ++ ys) ++ r) ≡ period_places - 1 = omega (arith, count_one, one_less, length-append (pre ++ ys) r, length-replicate blanks (fresh 0)) in
+      let out : remove ((pre ++ x ∷ ys) ++ r) (length pre) ≡ (pre ++ ys) ++ r
+      = rw (append_assoc pre (x ∷ ys) r, take-append_seam pre (x ∷ (ys ++ r)), ← add-one (length pre), drop-append-add pre (x ∷ (ys ++ r)) 1, append_assoc pre ys r) in
+      rw (out, set_at ((pre ++ ys) ++ r) w [] (fresh 0) (period_places - 1) size, append_assoc (pre ++ ys) r (fresh 0 ∷ []), replicate-append-replicate blanks 1 (fresh 0), m)
 
   abbrev with : List Period → State
   with ps = record { n = n; grouping = grouping; limits = limits; highest = highest; periods = ps; purses = purses }
@@ -226,7 +138,7 @@ module _ (n : ℕ) (grouping : Grouping) (limits : Limits) (highest : ℕ) (purs
   unfolding pack
   drops_pack =
       let d : length (pre ++ x ∷ ys) - 1 ≡ length (pre ++ ys) = omega (arith, count_one, length-append pre ys) in
-      λ z. record { n = n; grouping = grouping; limits = limits; highest = highest; count = d z; held = held_by (with (pre ++ ys)); periods = left_rows z; purses = purses }
+      λ z. record { n = n; grouping = grouping; limits = limits; highest = highest; count = d z; held = held_by (with (pre ++ ys)); periods = left_rows (get_or (pack (with (pre ++ x ∷ ys))).periods (length pre) no_period) z; purses = purses }
 
 module _ {b : Book} (v : Valid b) where
   pub stored : (j : ℕ) (p : Period) (held : ℕ) (purses : List ℕ) → j < b.count → held ≡ held_by (replaced (with_purses (view b) purses) j p)

@@ -1,26 +1,32 @@
 -- What the program's answers are, from the tests that it makes: the same as the definitions'.
 use Prim.Native.Nat.{ℕ, ◌+◌, ◌≤◌, ◌<◌}
-use mathlib.Core.Path.{◌≡◌, refl, sym, ap, ◌∙◌}
+use mathlib.Core.Path.{◌≡◌, refl, sym, ap, subst, ◌∙◌}
 use mathlib.Core.Bool.{Bool, true, false, cond, true≢false, false≢true}
 use mathlib.Core.List.{List}
 use native.Mathlib.Omega.{arith}
 use borrow.Author.Tests.{le-ltb, lt-leb, le-leb, ne_eqb}
 use lib.ListN.{length}
-use Rattle.exact.specs.Rows.{places}
+use Rattle.exact.specs.Rows.{places, at, sum}
 use Rattle.book.specs.Checks.{refusal}
 use Rattle.book.specs.rules.Kinds.{period_of, is_open, is_purse, purse_of, purse_cents}
 use Rattle.book.specs.rules.Periods.{zeros, raised}
 use Rattle.book.specs.rules.State.{view, pack, held_by, find, period_at, with_purses}
 use Rattle.book.specs.rules.Refusals.{Input, period_checks, barring, open_checks, purse_checks, named_checks, kind_checks, checks}
-use Rattle.book.specs.rules.Step.{Outcome, payout_words, purse_raised, accepted, Reply, reply}
+use Rattle.book.specs.rules.Step.{Outcome, payout_words, purse_raised, accepted, Reply, reply, paid_by}
 use Rattle.book.specs.rules.Valid.{Valid}
-use Rattle.book.specs.rules.Answers.{number_of, replied}
-use Rattle.book.specs.declared.answers.Answer.{Answer}
-use Rattle.book.specs.declared.steps.Applied.{Applied}
+use Rattle.book.specs.rules.Answers.{number_of}
+use Rattle.book.specs.inner.Entering.{Enters, reply_of}
+use Rattle.book.specs.declared.answers.Refusal.{Refusal}
+use Rattle.book.specs.declared.steps.Accepted.{Accepted}
+use Rattle.book.proofs.rules.AnswerLaws.{refusal_number}
+use Rattle.std.proofs.Common.{Result, Ok, Err}
 use Rattle.book.specs.declared.entries.Entry.{Entry}
 use Rattle.book.specs.declared.Book.{Book}
+use Rattle.book.proofs.rules.ValidLaws.{stays_valid}
 use Rattle.book.proofs.rules.StepLaws.{Raises, step_accepted, step_refused, accepted_raises}
 use Rattle.book.proofs.rules.CentsLaws.{raised_held}
+use Rattle.book.proofs.rules.WordLaws.{payout_sum}
+use Rattle.book.proofs.rules.ChangeLaws.{no_pays}
 use Rattle.book.proofs.records.Packing.{kept_held, raise, raised_purse}
 use Rattle.book.specs.inner.Ways.{Entered}
 
@@ -41,12 +47,12 @@ module _ {b : Book} (v : Valid b) (e : Entry) (w : List ℕ) where
         words = sym (ap (λ (o : Outcome). o.words) f) z;
       }
 
-  pub refuses : (a : Answer) (r : Applied) → r ≡ record { answer = a; rounds = 0; book = b }
-      → refusal (checks (view b) (record { entry = e; words = w })) ≡ number_of a → (number_of a ≡ 0 → ⊥) → replied r w ≡ reply b (record { entry = e; words = w })
-  refuses a r q n ne =
-      ap (λ (r : Applied). replied r w) q
-      ∙ ap (λ k. record { answer = k; rounds = 0; book = b; words = w }) (sym n)
-      ∙ reply_refused (λ z. ne (sym n ∙ z))
+  pub refuses : (why : Refusal) → refusal (checks (view b) (record { entry = e; words = w })) ≡ number_of (Err why) → Enters b (record { entry = e; words = w }) (Err why) b w
+  unfolding paid_by
+  refuses why n =
+      let q = ap (λ k. record { answer = k; rounds = 0; book = b; words = w }) (sym n) ∙ reply_refused (λ z. refusal_number why (sym n ∙ z)) in
+      let a : number_of (Err why) ≡ (reply b (record { entry = e; words = w })).answer = ap (λ (r : Reply). r.answer) q in
+      (q, sym (rw (ne_eqb (reply b (record { entry = e; words = w })).answer 0 (λ z. refusal_number why (a ∙ z)))))
 
   -- an acceptance
   pub accepts : (o : Outcome) (r : Reply) → refusal (checks (view b) (record { entry = e; words = w })) ≡ 0
@@ -99,3 +105,20 @@ module _ {b : Book} (v : Valid b) (e : Entry) (w : List ℕ) where
       let held : held_by (with_purses (view b) (raised b.purses (purse_of e) (purse_cents e))) ≡ b.held + purse_cents e = omega (arith, raised_held (view b) x v.fit o, kept_held v) in
       accepts (purse_raised (view b) (purse_of e) (purse_cents e) w) _ z (accepted_raises (view b) x o)
       (λ k. record { answer = 0; rounds = 0; book = raised_purse v (purse_of e) (purse_cents e) held k; words = payout_words b.n (zeros places) w })
+
+  -- an acceptance by which nothing is paid
+  pub enters_unpaid : (after : Book) (words : List ℕ) → record { answer = 0; rounds = 0; book = after; words = words } ≡ reply b (record { entry = e; words = w })
+      → words ≡ payout_words b.n (zeros places) w → Enters b (record { entry = e; words = w }) (Ok (record { rounds = 0; paid = 0 })) after words
+  unfolding paid_by
+  enters_unpaid after words q p =
+      let nothing : 0 ≡ sum (at words) b.n = omega (arith, ap (λ (w : List ℕ). sum (at w) b.n) p, payout_sum b.n (zeros places) w, no_pays b.n) in
+      (q, rw (← q) nothing)
+
+left_book : (r : Result Accepted Refusal) (after : Book) (words : List ℕ) → (reply_of r after words).book ≡ after
+left_book (Ok r) after words = refl
+left_book (Err why) after words = refl
+
+-- a book that an entry left is valid
+pub enters_valid : {b : Book} (v : Valid b) (x : Input) (r : Result Accepted Refusal) (after : Book) (words : List ℕ) → Enters b x r after words → Valid after
+enters_valid {b = b} v x r after words e =
+    subst Valid (sym (ap (λ (o : Reply). o.book) e.0) ∙ left_book r after words) (stays_valid.next b x v)

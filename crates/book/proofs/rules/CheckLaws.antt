@@ -5,8 +5,8 @@ use mathlib.Core.Bool.{Bool, true, false, cond, false≢true}
 use mathlib.Core.List.{List, [], ◌∷◌, ◌++◌}
 use mathlib.Core.Logic.{◌⊎◌, inl, inr}
 use native.Mathlib.Omega.{arith}
-use borrow.Author.Tests.{lt-leb, le-leb, ltb-true, ltb-false, eq-eqb}
-use lib.Dec.{eqb, ltb, leb, eqb-suc-zero}
+use borrow.Author.Tests.{eq-eqb}
+use lib.Dec.{eqb, eqb-suc-zero}
 use Rattle.exact.proofs.Cases.{cases, cases_eq}
 use Rattle.book.specs.Checks.{Check, on, refusal}
 use Rattle.book.specs.layouts.Allowed.{none}
@@ -61,14 +61,6 @@ last_passes k [] t q f e = let z = rw (f tt) at e in omega (arith, z)
 last_passes k (c ∷ l) t q f e =
     let d = number_differs c.number (suc k) (without (suc k) l) q in
     cases (λ j. j ≡ suc k → ⊥) c.fails (λ _ r. d.0 r) (λ p r. last_passes k l t d.1 (λ a. f (p, a)) r) e
-
--- a last test of a limit
-pub within_last : (limit v : ℕ) → leb v limit ≡ none (ltb limit v ∷ [])
-within_last limit v = go (ltb limit v) refl
-  where
-    go : (t : Bool) → ltb limit v ≡ t → leb v limit ≡ cond t false true
-    go true e = lt-leb v limit (ltb-true limit v e)
-    go false e = le-leb v limit (ltb-false limit v e)
 
 -- a list of checks whose numbers are all above k refuses with no number up to k
 abbrev pub AllAbove : ℕ → List Check → Type 0

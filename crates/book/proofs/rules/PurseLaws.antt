@@ -4,15 +4,14 @@ use mathlib.Core.Path.{◌≡◌, refl, sym, ap, subst, ◌∙◌}
 use mathlib.Core.Bool.{Bool, true, false, cond}
 use mathlib.Core.List.{List}
 use native.Mathlib.Omega.{arith}
-use lib.Dec.{ltb}
 use lib.ListN.{length}
 use Rattle.exact.specs.Rows.{places, at, sum, cells}
 use Rattle.exact.proofs.Cases.{cases}
 use Rattle.exact.proofs.RowLaws.{sum_add, sum_cong, cells_at, cells_cong, cells_both, cells_length, Holds, holds_own}
 use Rattle.settlement.specs.Settling.{held}
 use Rattle.settlement.specs.declared.groups.Grouping.{Grouping}
-use Rattle.book.specs.rules.Periods.{is_settled, side_total, holds, leaves, with_rows}
-use Rattle.book.specs.rules.State.{State, arrears_before, earlier_arrears}
+use Rattle.book.specs.rules.Periods.{side_total, holds, leaves, with_rows}
+use Rattle.book.specs.rules.State.{State, earlier_arrears}
 use Rattle.book.specs.rules.Purses.{drawn_from, with_drawn, purses_left}
 use Rattle.book.specs.rules.Valid.{Sound, InBook, AtStage, BeforeSettlement}
 use Rattle.book.specs.declared.Stage.TheVariants.{Noticed}
@@ -27,21 +26,6 @@ module _ (s : State) (p : Period) (i : ℕ) where
   pub drawn_unpaid : drawn_from s p i ≤ at p.payable i - at p.received i
   unfolding drawn_from
   drawn_unpaid = cases (λ c. c ≤ at p.payable i - at p.received i) (earlier_arrears i p.number s.periods) (λ _. omega arith) (λ _. omega arith)
-
--- a purse that one period bars, or one of those behind it
-pub barred_either : (a b : Bool) (c : ℕ) → cond b 0 (cond a 0 c) ≡ cond (cond a true b) 0 c
-barred_either true true c = refl
-barred_either true false c = refl
-barred_either false b c = refl
-
--- a period bars those who have arrears in it
-pub barring_arrears : (i k : ℕ) (p : Period) → arrears_before i k p ≡ cond (cond (ltb p.number k) (is_settled p.stage) false) (ltb 0 (at p.arrears i)) false
-unfolding arrears_before
-barring_arrears i k p = go (ltb p.number k) (is_settled p.stage) (ltb 0 (at p.arrears i))
-  where
-    go : (t u v : Bool) → cond t (cond u v false) false ≡ cond (cond t u false) v false
-    go true u v = refl
-    go false u v = refl
 
 -- any cents, moved into a period ..
 module _ (n : ℕ) (drawn : ℕ → ℕ) (p : Period) where

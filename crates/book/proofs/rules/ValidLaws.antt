@@ -7,8 +7,8 @@ use mathlib.Core.Logic.{◌⊎◌, inl, inr}
 use native.Mathlib.Omega.{arith}
 use borrow.Author.Tests.{eqb-true, eqb-false}
 use lib.Dec.{eqb}
-use lib.ListN.{length, take, drop, replicate, length-append}
-use lib.Seq.{take-append_seam}
+use lib.ListN.{length, take, drop, replicate, get_or, length-append}
+use lib.Seq.{split_at, take-append_seam}
 use Rattle.exact.specs.Rows.{places, at, sum}
 use Rattle.exact.proofs.Cases.{cases, cases_eq}
 use Rattle.exact.proofs.RowLaws.{sum_zero}
@@ -21,13 +21,14 @@ use Rattle.book.specs.Checks.{refusal}
 use Rattle.book.specs.rules.Kinds.{period_of, is_open, is_purse, is_amount, is_notice, is_receipt, is_settle, receipt_cents, purse_of, purse_cents}
 use Rattle.book.specs.rules.Periods.{is_opened, is_settled, zeros, raised, holds, side_total, fresh, leaves, Change, changed, with_late_receipt}
 use Rattle.book.specs.rules.Limits.{period_places, market, UpTo}
-use Rattle.book.specs.rules.State.{State, view, pack, find, period_at, replaced, removed, added, with_purses}
+use Rattle.book.specs.rules.State.{State, view, pack, find, no_period, period_at, replaced, removed, added, with_purses}
 use Rattle.book.specs.rules.Purses.{purse_limit, after_drawing}
 use Rattle.book.specs.rules.Makings.{making_checks, kept, no_making, made}
 use Rattle.book.specs.layouts.Allowed.{allowed}
 use Rattle.book.specs.rules.Refusals.{Input, checks}
 use Rattle.book.specs.rules.Step.{Outcome, stored, acted, accepted, step, reply}
-use Rattle.book.specs.rules.Valid.{All, InBook, SoundState, Valid, StaysValid, RefusalChangesNothing, RoundsOfSettlements}
+use Rattle.book.specs.rules.Valid.{All, InBook, SoundState, Valid}
+use Rattle.book.specs.rules.Stays.{StaysValid, RefusalChangesNothing, RoundsOfSettlements}
 use Rattle.book.specs.declared.entries.Entry.{Entry}
 use Rattle.book.specs.declared.makings.Making.{Making}
 use Rattle.book.specs.declared.Period.{Period}
@@ -72,6 +73,38 @@ pub fresh_holds : (n k : ℕ) → holds n (fresh k) ≡ 0
 unfolding fresh holds held
 fresh_holds n k = omega (arith, no_pays n)
 
+module _ (s : State) (f : SoundState s) where
+  -- one more period
+  pub added_fit : (p : Period) → length s.periods < s.limits.periods → InBook s.n s.grouping p → SoundState (added s p)
+  unfolding added
+  added_fit p room h = record {
+    limited = f.limited;
+    many = f.many;
+    grouped = f.grouped;
+    few = omega (arith, length-append s.periods (p ∷ []), room);
+    each = all_join (InBook s.n s.grouping) s.periods (p ∷ []) f.each (h, tt);
+    purses_size = f.purses_size;
+    purse_le = f.purse_le;
+  }
+
+  -- one period less
+  pub removed_fit : (j : ℕ) → j < length s.periods → SoundState (removed s j)
+  unfolding removed
+  removed_fit j used =
+      let older = take j s.periods in
+      let younger = drop (suc j) s.periods in
+      let out = get_or s.periods j no_period in
+      let all = subst (All (InBook s.n s.grouping)) (split_at s.periods j no_period used) f.each in
+      record {
+        limited = f.limited;
+        many = f.many;
+        grouped = f.grouped;
+        few = omega (arith, f.few, ap length (split_at s.periods j no_period used), length-append older (out ∷ younger), length-append older younger);
+        each = all_join (InBook s.n s.grouping) older younger (all_left (InBook s.n s.grouping) older (out ∷ younger) all) (all_right (InBook s.n s.grouping) older (out ∷ younger) all).1;
+        purses_size = f.purses_size;
+        purse_le = f.purse_le;
+      }
+
 -- the period that an accepted entry names
 module _ (s : State) (x : Input) (f : SoundState s) (i : Entered s x) (o : Names s x) where
   abbrev j : ℕ
@@ -105,15 +138,7 @@ module _ (s : State) (x : Input) (f : SoundState s) (i : Entered s x) (o : Names
       let left = all_left (InBook s.n s.grouping) older (named ∷ younger) split in
       let right = (all_right (InBook s.n s.grouping) older (named ∷ younger) split).1 in
       cases SoundState (leaves s.n p')
-      (λ _. record {
-        limited = f.limited;
-        many = f.many;
-        grouped = f.grouped;
-        few = omega (arith, f.few, sizes, length-append older younger);
-        each = all_join (InBook s.n s.grouping) older younger left right;
-        purses_size = f.purses_size;
-        purse_le = f.purse_le;
-      })
+      (λ _. removed_fit s f j o.found)
       (λ q. record {
         limited = f.limited;
         many = f.many;
@@ -130,18 +155,7 @@ acted_fit s x f i o = moved_fit s x f i o
 
 module _ (s : State) (x : Input) (f : SoundState s) where
   opened_fit : Opens s x → SoundState (added s (fresh (period_of x.entry)))
-  unfolding added
-  opened_fit o =
-      let p = fresh (period_of x.entry) in
-      record {
-        limited = f.limited;
-        many = f.many;
-        grouped = f.grouped;
-        few = omega (arith, length-append s.periods (p ∷ []), o.room);
-        each = all_join (InBook s.n s.grouping) s.periods (p ∷ []) f.each (fresh_in_book s.n s.grouping (period_of x.entry) (many_places f), tt);
-        purses_size = f.purses_size;
-        purse_le = f.purse_le;
-      }
+  opened_fit o = added_fit s f (fresh (period_of x.entry)) o.room (fresh_in_book s.n s.grouping (period_of x.entry) (many_places f))
 
   raised_fit : Raises s x → SoundState (with_purses s (raised s.purses (purse_of x.entry) (purse_cents x.entry)))
   raised_fit o =

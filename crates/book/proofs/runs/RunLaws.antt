@@ -14,12 +14,10 @@ use Rattle.book.specs.Checks.{refusal}
 use Rattle.book.specs.layouts.Allowed.{allowed}
 use Rattle.book.specs.layouts.Reading.{ReadOutcome, entry_at, read_checks, reading, on_entry}
 use Rattle.book.specs.rules.Step.{Reply, reply, paid_by}
-use Rattle.book.specs.rules.Valid.{Valid}
 use Rattle.book.specs.runs.Running.{Run, line_of, stopped, lined, run}
 use Rattle.book.specs.declared.entries.Entry.{Entry}
 use Rattle.book.specs.declared.Book.{Book}
 use Rattle.book.proofs.rules.CheckLaws.{all_pass}
-use Rattle.book.proofs.rules.ValidLaws.{stays_valid}
 
 -- two runs of stores, one behind the other
 sets_then : (l m s : List ℕ) (k : ℕ) → sets s k (l ++ m) ≡ sets (sets s k l) (k + length l) m
@@ -108,14 +106,12 @@ module _ (bytes : List ℕ) (b₀ : Book) (from : ℕ) (words₀ before : List �
   whole = run bytes (length before) b₀ from words₀
 
   pub record Standing (b : Book) (place : ℕ) (words lines : List ℕ) (wrote : ℕ) : Type 0 where
-    pub valid : Valid b
     pub size : length lines ≡ length before
     pub room : wrote ≤ length lines
     pub continues : Continues (run bytes (length before) b₀ from words₀) (run bytes (length lines - wrote) b place words) before lines wrote
 
-  pub begins : Valid b₀ → Standing b₀ from words₀ before 0
-  begins v = record {
-    valid = v;
+  pub begins : Standing b₀ from words₀ before 0
+  begins = record {
     size = refl;
     room = omega arith;
     continues = subst (λ (k : ℕ). Continues whole (run bytes k b₀ from words₀) before before 0) (let e : length before ≡ length before - 0 = omega arith in e)
@@ -124,13 +120,12 @@ module _ (bytes : List ℕ) (b₀ : Book) (from : ℕ) (words₀ before : List �
 
   module _ {b : Book} {place : ℕ} {words lines : List ℕ} {wrote : ℕ} (s : Standing b place words lines wrote) where
     -- the work left, once it is known to begin with these lines
-    pub goes_on : (l : List ℕ) (b' : Book) (place' : ℕ) (words' : List ℕ) → Valid b' → wrote + length l ≤ length lines
+    pub goes_on : (l : List ℕ) (b' : Book) (place' : ℕ) (words' : List ℕ) → wrote + length l ≤ length lines
         → run bytes (length lines - wrote) b place words ≡ lined l (run bytes (length lines - wrote - length l) b' place' words')
         → Standing b' place' words' (sets lines wrote l) (wrote + length l)
-    goes_on l b' place' words' v h q =
+    goes_on l b' place' words' h q =
         let e : length lines - wrote - length l ≡ length (sets lines wrote l) - (wrote + length l) = omega (arith, length-sets lines wrote l) in
         record {
-          valid = v;
           size = length-sets lines wrote l ∙ s.size;
           room = omega (arith, length-sets lines wrote l);
           continues = lined_on l (subst (λ (r : Run). Continues whole r before lines wrote) (q ∙ ap (λ (k : ℕ). lined l (run bytes k b' place' words')) e) s.continues);
@@ -162,7 +157,7 @@ module _ (bytes : List ℕ) (b₀ : Book) (from : ℕ) (words₀ before : List �
 
         pub turn_on : paid ≡ 0 → Standing b' next words' lines' (wrote + 3)
         turn_on z = moved (λ b w l. Standing b next w l (wrote + 3))
-            (goes_on (line_of b.n r) r.book next r.words (stays_valid.next b (record { entry = e; words = words }) s.valid) (omega arith)
+            (goes_on (line_of b.n r) r.book next r.words (omega arith)
             (read ∙ rw (eq-eqb (paid_by b.n r) 0 (sym t.1 ∙ z))))
 
         pub turn_ends : (paid ≡ 0 → ⊥) → Ends (run bytes (length before) b₀ from words₀) before b' next words' lines' (wrote + 3)

@@ -1,5 +1,5 @@
 -- What the functions of one period need of it, and how their answers read.
-use Rattle.std.specs.Prelude.{ℕ, ◌+◌, ◌-◌, ◌*◌, ◌≤◌, ◌<◌, ◌^◌, ◌≡◌, Bool, true, false, cond, List, eqb, length}
+use Rattle.std.specs.Prelude.{ℕ, ◌+◌, ◌-◌, ◌*◌, ◌≤◌, ◌<◌, ◌^◌, ◌≡◌, Bool, true, false, cond, List, eqb, length, Result, Ok, Err}
 use Rattle.exact.specs.Rows.{places, at, sum}
 use Rattle.settlement.specs.Month.{tiers}
 use Rattle.settlement.specs.Groups.{grouping_allowed}
@@ -12,6 +12,7 @@ use Rattle.book.specs.rules.Refusals.{receipt_checks, period_checks}
 use Rattle.book.specs.rules.Step.{payout_words}
 use Rattle.book.specs.rules.Valid.{InBook}
 use Rattle.book.specs.rules.Answers.{number_of}
+use Rattle.book.specs.declared.answers.Refusal.{Refusal}
 use Rattle.book.specs.declared.changes.Change.{Change}
 use Rattle.book.specs.declared.effects.Effect as effects
 use Rattle.book.specs.declared.entries.Entry.{Entry}
@@ -76,6 +77,7 @@ pub record Affects (n : ℕ) (grouping : Grouping) (e : Entry) (p : Period) (hel
   pub within : period.holds n p ≤ held
   pub fits : held + receipt_cents e < 2 ^ 64
 
--- 01's numbers and values of an effect, with the payout words as it leaves them
-abbrev pub effect_of : effects.Effect → List ℕ → Effect
-effect_of r words = record { answer = number_of r.answer; rounds = r.rounds; period = r.period; held = r.held; paid = r.paid; words = words }
+-- 01's numbers and values of an effect on a period and on the cents held, with the payout words as it leaves them
+abbrev pub effect_of : Period → ℕ → Result effects.Effect Refusal → List ℕ → Effect
+effect_of p held (Ok r) words = record { answer = 0; rounds = r.rounds; period = r.period; held = r.held; paid = r.paid; words = words }
+effect_of p held (Err why) words = record { answer = number_of (Err why); rounds = 0; period = p; held = held; paid = 0; words = words }

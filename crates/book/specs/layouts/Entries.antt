@@ -2,6 +2,8 @@
 use Rattle.std.specs.Prelude.{ℕ, ◌+◌, Bool, true, cond, List, [], ◌∷◌, eqb, leb, get_or, length}
 use Rattle.book.specs.layouts.Fields.{field_bytes}
 use Rattle.book.specs.declared.entries.Entry.{Entry}
+use Rattle.book.specs.declared.entries.Kind.{Kind}
+use Rattle.book.specs.declared.entries.Kind.TheVariants as kinds
 use Rattle.book.specs.declared.entries.Entry.TheVariants.{Open, Energy, Amount, Notice, Receipt, Settle, Purse, Washup}
 
 -- the lengths of the bodies, by kind; there is no kind 0
@@ -13,6 +15,16 @@ body_length kind = get_or body_lengths kind 0
 
 abbrev pub unknown : ℕ → Bool
 unknown kind = cond (eqb kind 0) true (leb (length body_lengths) kind)
+
+abbrev pub kind_number : Kind → ℕ
+kind_number kinds.Open = 1
+kind_number kinds.Energy = 2
+kind_number kinds.Amount = 3
+kind_number kinds.Notice = 4
+kind_number kinds.Receipt = 5
+kind_number kinds.Settle = 6
+kind_number kinds.Purse = 7
+kind_number kinds.Washup = 8
 
 -- the widths of the fields of a body, by kind
 abbrev pub layouts : List (List ℕ)

@@ -1,12 +1,13 @@
 -- Reading entries: 01's answers, and what becomes of the place (01, Entries, and Refused, numbers 1 to 3).
-use Rattle.std.specs.Prelude.{ℕ, ◌+◌, cond, not, List, [], ◌∷◌, eqb, ltb, leb, get_or, length}
+use Rattle.std.specs.Prelude.{ℕ, ◌+◌, cond, not, List, [], ◌∷◌, eqb, ltb, leb, get_or, length, Result, Ok, Err}
 use Rattle.book.specs.Checks.{Check, on, refusal}
 use Rattle.book.specs.layouts.Fields.{fields_at}
 use Rattle.book.specs.layouts.Entries.{body_length, unknown, layout, entry_of}
 use Rattle.book.specs.layouts.Allowed.{allowed}
 use Rattle.book.specs.declared.entries.Entry.{Entry}
-use Rattle.book.specs.declared.reader.Reading.{Reading}
-use Rattle.book.specs.declared.reader.Reading.TheVariants.{Found, Short, Unknown, Outside}
+use Rattle.book.specs.declared.reader.Found.{Found}
+use Rattle.book.specs.declared.reader.ReadError.{ReadError}
+use Rattle.book.specs.declared.reader.ReadError.TheVariants.{Short, Unknown, Outside}
 
 -- what reading answers: 0 or a refusal's number, the place of the next entry, and the entry, if there is one
 pub record ReadOutcome : Type 0 where
@@ -40,12 +41,16 @@ module _ (s : List ℕ) (place : ℕ) where
       (record { answer = 0; place = next_place; entry = entry_at ∷ [] })
       (record { answer = refusal read_checks; place = place; entry = [] })
 
+-- 01's number for each refusal to read
+abbrev pub read_number : ReadError → ℕ
+read_number Short = 1
+read_number Unknown = 2
+read_number Outside = 3
+
 -- 01's number and values for each answer of the reader at a place: a refusal leaves the place
-abbrev pub read_outcome : ℕ → Reading → ReadOutcome
-read_outcome place (Found entry next) = record { answer = 0; place = next; entry = entry ∷ [] }
-read_outcome place Short = record { answer = 1; place = place; entry = [] }
-read_outcome place Unknown = record { answer = 2; place = place; entry = [] }
-read_outcome place Outside = record { answer = 3; place = place; entry = [] }
+abbrev pub read_outcome : ℕ → Result Found ReadError → ReadOutcome
+read_outcome place (Ok found) = record { answer = 0; place = found.next; entry = found.entry ∷ [] }
+read_outcome place (Err e) = record { answer = read_number e; place = place; entry = [] }
 
 -- what is done with the entry that was read, or where none was
 abbrev pub on_entry : {A : Type 0} → List Entry → (Entry → A) → A → A

@@ -1,11 +1,11 @@
 -- Writing entries: 01's answers, and what becomes of the lent bytes (01, Entries, and Refused, numbers 3 and 5).
-use Rattle.std.specs.Prelude.{ℕ, cond, not, List, [], ◌∷◌, ◌++◌, eqb, ltb, length, drop}
+use Rattle.std.specs.Prelude.{ℕ, cond, not, List, [], ◌∷◌, ◌++◌, eqb, ltb, length, drop, Result, Ok, Err}
 use Rattle.book.specs.Checks.{Check, on, refusal}
 use Rattle.book.specs.layouts.Entries.{bytes_of, size}
 use Rattle.book.specs.layouts.Allowed.{allowed}
 use Rattle.book.specs.declared.entries.Entry.{Entry}
-use Rattle.book.specs.declared.writer.Writing.{Writing}
-use Rattle.book.specs.declared.writer.Writing.TheVariants.{Wrote, Outside, NoRoom}
+use Rattle.book.specs.declared.writer.WriteError.{WriteError}
+use Rattle.book.specs.declared.writer.WriteError.TheVariants.{Outside, NoRoom}
 
 -- what writing answers: 0 or a refusal's number, and how many bytes were written
 pub record WriteOutcome : Type 0 where
@@ -26,8 +26,12 @@ writing e room =
 unfoldable pub written : Entry → List ℕ → List ℕ
 written e out = cond (eqb (refusal (write_checks e (length out))) 0) (bytes_of e ++ drop (size e) out) out
 
+-- 01's number for each refusal to write
+abbrev pub write_number : WriteError → ℕ
+write_number Outside = 3
+write_number NoRoom = 5
+
 -- 01's number and values for each answer of the writer
-abbrev pub write_outcome : Writing → WriteOutcome
-write_outcome (Wrote count) = record { answer = 0; count = count }
-write_outcome Outside = record { answer = 3; count = 0 }
-write_outcome NoRoom = record { answer = 5; count = 0 }
+abbrev pub write_outcome : Result ℕ WriteError → WriteOutcome
+write_outcome (Ok count) = record { answer = 0; count = count }
+write_outcome (Err e) = record { answer = write_number e; count = 0 }

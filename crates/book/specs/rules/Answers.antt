@@ -1,26 +1,30 @@
 -- How the book's answers read: 01's and 02's number for each, and the values of the answer to an entry.
-use Rattle.std.specs.Prelude.{ℕ, List}
+use Rattle.std.specs.Prelude.{ℕ, List, Result, Ok, Err}
 use Rattle.book.specs.rules.Step.{Reply}
-use Rattle.book.specs.declared.answers.Answer.{Answer}
-use Rattle.book.specs.declared.answers.Answer.TheVariants.{Accepted, Outside, NoParticipants, FewWords, NotAbove, Full, NotInBook, WrongStage, Unequal, PastBound, NotAParticipant, TooMuch, EarlierArrears, PursePastBound, Misdated}
+use Rattle.book.specs.declared.answers.Refusal.{Refusal}
+use Rattle.book.specs.declared.answers.Refusal.TheVariants.{Outside, NoParticipants, FewWords, NotAbove, Full, NotInBook, WrongStage, Unequal, PastBound, NotAParticipant, TooMuch, EarlierArrears, PursePastBound, Misdated}
 use Rattle.book.specs.declared.steps.Applied.{Applied}
 
+-- acceptance, or why an entry or a making is refused
+abbrev pub Answer : Type 0
+Answer = Result (Unit {0}) Refusal
+
 abbrev pub number_of : Answer → ℕ
-number_of Accepted = 0
-number_of Outside = 3
-number_of NoParticipants = 4
-number_of FewWords = 5
-number_of NotAbove = 6
-number_of Full = 7
-number_of NotInBook = 8
-number_of WrongStage = 9
-number_of Unequal = 10
-number_of PastBound = 11
-number_of NotAParticipant = 12
-number_of TooMuch = 13
-number_of EarlierArrears = 14
-number_of PursePastBound = 15
-number_of Misdated = 16
+number_of (Ok _) = 0
+number_of (Err Outside) = 3
+number_of (Err NoParticipants) = 4
+number_of (Err FewWords) = 5
+number_of (Err NotAbove) = 6
+number_of (Err Full) = 7
+number_of (Err NotInBook) = 8
+number_of (Err WrongStage) = 9
+number_of (Err Unequal) = 10
+number_of (Err PastBound) = 11
+number_of (Err NotAParticipant) = 12
+number_of (Err TooMuch) = 13
+number_of (Err EarlierArrears) = 14
+number_of (Err PursePastBound) = 15
+number_of (Err Misdated) = 16
 
 -- the answer to an entry, with the payout words as it leaves them
 abbrev pub replied : Applied → List ℕ → Reply

@@ -1,22 +1,17 @@
--- What is true of every book that the program hands back, and what its functions require of a book.
+-- What is true of every book: a book keeps it in its type, so that no function requires it of its caller.
 use Rattle.std.specs.Prelude.{ℕ, ◌+◌, ◌-◌, ◌*◌, ◌≤◌, ◌<◌, ◌≡◌, true, false, List, [], ◌∷◌, length}
 use Rattle.exact.specs.Rows.{places, at, sum}
 use Rattle.settlement.specs.Month.{Bounded, tiers, owing_to}
 use Rattle.settlement.specs.Notice.{Due}
 use Rattle.settlement.specs.Groups.{grouping_allowed, noticed}
 use Rattle.settlement.specs.declared.groups.Grouping.{Grouping}
-use Rattle.book.specs.rules.Kinds.{is_settle}
 use Rattle.book.specs.rules.Periods.{month_of, side_total, leaves}
 use Rattle.book.specs.rules.Limits.{market, UpTo}
 use Rattle.book.specs.rules.State.{State, view, pack}
 use Rattle.book.specs.rules.Purses.{purse_limit}
-use Rattle.book.specs.rules.Makings.{made}
-use Rattle.book.specs.rules.Refusals.{Input}
-use Rattle.book.specs.rules.Step.{reply}
 use Rattle.book.specs.declared.Stage.{Stage}
 use Rattle.book.specs.declared.Stage.TheVariants.{Opened, Noticed, Settled}
 use Rattle.book.specs.declared.Period.{Period}
-use Rattle.book.specs.declared.makings.Making.{Making}
 use Rattle.book.specs.declared.Book.{Book}
 
 -- every element of a list has a property
@@ -83,17 +78,3 @@ pub record SoundState (s : State) : Type 0 where
 pub record Valid (b : Book) : Type 0 where
   pub packed : b ≡ pack (view b)
   pub fit : SoundState (view b)
-
--- a book just made is valid, and so is every book that an entry leaves
-pub record StaysValid : Type 0 where
-  pub first : (m : Making) → Valid (pack (made m).state)
-  pub next : (b : Book) (x : Input) → Valid b → Valid (reply b x).book
-
--- a refused entry leaves the book and the payout words as they were
-abbrev pub RefusalChangesNothing : Type 0
-RefusalChangesNothing = (b : Book) (x : Input) → Valid b → ((reply b x).answer ≡ 0 → ⊥) → ((reply b x).book ≡ b) × ((reply b x).words ≡ x.words)
-
--- rounds are 0 in every answer but an accepted settlement's
-pub record RoundsOfSettlements : Type 0 where
-  pub refused : (b : Book) (x : Input) → ((reply b x).answer ≡ 0 → ⊥) → (reply b x).rounds ≡ 0
-  pub others : (b : Book) (x : Input) → is_settle x.entry ≡ false → (reply b x).rounds ≡ 0

@@ -1,18 +1,14 @@
-use Prim.Native.Nat.{suc, ◌+◌}
-use mathlib.Core.Path.{◌≡◌}
-use native.Mathlib.Numerals.{add-one}
+use Prim.Native.Nat.{◌+◌, ◌-◌}
+use mathlib.Core.Path.{sym, ◌∙◌}
+use mathlib.Core.List.{[], ◌∷◌}
 use native.Mathlib.Omega.{arith}
-use lib.ListN.{length-set}
+use Rattle.std.proofs.lemmas.List.Edits.{sets-eq}
+use Rattle.std.proofs.lemmas.Slice.{put_mid-paste}
 use Rattle.book.proofs.lines.put_line.Goals as goal
-
-pub bounds-lines-k-2 : goal.bounds-lines-k-2
-bounds-lines-k-2 c = simp length-set (omega arith)
-
-pub bounds-lines-k-3 : goal.bounds-lines-k-3
-bounds-lines-k-3 c = simp length-set (omega arith)
 
 pub returns : goal.returns
 returns c =
-    let k = c.args.k in
-    let two : k + 2 ≡ suc (suc k) = omega arith in
-    rw (add-one k, two)
+    let s = c.args in
+    let line = s.answer ∷ s.paid ∷ s.held ∷ [] in
+    put_mid-paste s.k (s.k + 3 - s.k) s.lines.now c.copy_from_slice.new.self line 3 c.copy_from_slice.ensures.after (omega arith) (omega arith)
+    ∙ sym (sets-eq line s.lines.now s.k (omega arith))

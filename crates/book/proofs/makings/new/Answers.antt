@@ -1,33 +1,31 @@
-use mathlib.Core.Path.{◌≡◌, sym, ◌∙◌}
-use mathlib.Core.Bool.{true, false}
+use mathlib.Core.Path.{sym, ◌∙◌}
 use native.Mathlib.Omega.{arith}
-use borrow.Author.Tests.{eqb-true}
-use lib.Dec.{eqb}
-use Rattle.book.specs.Checks.{refusal}
-use Rattle.book.specs.rules.Makings.{made, making_checks}
+use borrow.Author.Tests.{ne_eqb}
+use Rattle.book.specs.rules.Makings.{made}
+use Rattle.book.proofs.rules.AnswerLaws.{refusal_number}
 use Rattle.book.proofs.rules.MakingLaws.{accepted_limited, accepted_many}
+use Rattle.book.proofs.rules.ValidLaws.{made_fit}
 use Rattle.book.proofs.makings.new.Goals as goal
-use Rattle.book.proofs.makings.new.Goals.{Else-not-is_accepted}
-
--- the checks are passed
-passed : (c : Else-not-is_accepted) → eqb (refusal (making_checks c.args.m)) 0 ≡ true
-passed c = rw c.making_answer-answer.ensures at (sym c.is_accepted.ensures ∙ c.if-not-is_accepted.false)
-
-pub returns-then-not-is_accepted : goal.returns-then-not-is_accepted
-unfolding made
-returns-then-not-is_accepted c =
-    let failed : eqb (refusal (making_checks c.args.m)) 0 ≡ false =
-    rw c.making_answer-answer.ensures at (sym c.is_accepted.ensures ∙ c.if-not-is_accepted.true) in
-    (c.making_answer-answer.ensures, c.empty_book-b.ensures ∙ rw (c.no_making.ensures, failed))
 
 pub kept-requires : goal.kept-requires
 kept-requires c =
     let m = c.args.m in
-    let e : refusal (making_checks m) ≡ 0 = eqb-true _ _ (passed c) in
-    omega (arith, accepted_many m e, (accepted_limited m e).participants)
+    let passed = sym c.in-Ok.ensures in
+    omega (arith, accepted_many m passed, (accepted_limited m passed).participants)
 
-pub returns : goal.returns
+pub empty_book-requires : goal.empty_book-requires
 unfolding made
-returns c =
-    let t = c.before.before in
-    (t.making_answer-answer.ensures, c.empty_book-b-2.ensures ∙ rw (c.kept.ensures, passed t))
+empty_book-requires c = rw c.kept.ensures (rw (sym c.in-Ok.ensures) at (made_fit c.args.m))
+
+pub empty_book-requires-in-Err : goal.empty_book-requires-in-Err
+unfolding made
+empty_book-requires-in-Err c = rw c.no_making.ensures (rw (ne_eqb _ _ (λ z. refusal_number _ (c.in-Err.ensures ∙ z))) at (made_fit c.args.m))
+
+pub returns-in-Ok : goal.returns-in-Ok
+unfolding made
+returns-in-Ok c = (c.in-Ok.ensures, c.empty_book.ensures ∙ rw (c.kept.ensures, sym c.in-Ok.ensures))
+
+pub returns-in-Err : goal.returns-in-Err
+unfolding made
+returns-in-Err c =
+    (c.in-Err.ensures, c.empty_book-in-Err.ensures ∙ rw (c.no_making.ensures, ne_eqb _ _ (λ z. refusal_number _ (c.in-Err.ensures ∙ z))))

@@ -1,51 +1,39 @@
--- Past the first test the entry is allowed, and n is its size.
-use native.Mathlib.Omega.{arith}
-use mathlib.Core.Path.{◌≡◌, sym, ap, ◌∙◌}
-use mathlib.Core.Bool.{true, false}
-use Prim.Native.Nat.{ℕ, ◌+◌, ◌≤◌}
+-- An entry that is not allowed writes nothing, nor does one without room; else the kind and the body are the entry's bytes.
+use Rattle.std.proofs.Common.{rules, arith, ◌≡◌, ◌+◌, ◌≤◌, ◌<◌, ℕ, true, false, List, length, ◌∙◌, Ok, Err}
+use Rattle.std.proofs.lemmas.List.Edits.{sets}
 use borrow.Author.Tests.{lt-ltb, le-ltb}
-use lib.ListN.{length}
-use Rattle.book.specs.layouts.Entries.{body_length, kind_of, bytes_of, size}
+use Rattle.book.specs.layouts.Entries.{bytes_of, size}
 use Rattle.book.specs.layouts.Allowed.{allowed}
+use Rattle.book.specs.layouts.Writing.{writing, written, write_outcome}
 use Rattle.book.specs.declared.entries.Entry.{Entry}
-use Rattle.book.specs.layouts.Writing.{writing, written}
-use Rattle.book.proofs.layouts.EntryLaws.{kind_lt, size_le, bytes_size, put_front}
+use Rattle.book.specs.declared.writer.WriteError.TheVariants.{Outside, NoRoom}
+use Rattle.book.proofs.layouts.EntryLaws.{bytes_size, put_front}
 use Rattle.book.proofs.writer.write_entry.Goals as goal
 
-sized : {kind : ℕ} (e : Entry) → kind ≡ kind_of e → body_length kind + 1 ≡ size e
-sized e q = ap (λ (k : ℕ). body_length k + 1) q
+module _ (e : Entry) (out : List ℕ) where
+  outside : allowed e ≡ false → (write_outcome (Err Outside) ≡ writing e (length out)) × (out ≡ written e out)
+  unfolding writing written
+  outside a = (rw a, rw a)
+
+  module _ (a : allowed e ≡ true) where
+    no_room : length out < size e → (write_outcome (Err NoRoom) ≡ writing e (length out)) × (out ≡ written e out)
+    unfolding writing written
+    no_room h = (rw (a, lt-ltb _ _ h), rw (a, lt-ltb _ _ h))
+
+    wrote : (n : ℕ) → n ≡ size e → n ≤ length out → (new : List ℕ) → new ≡ sets out 0 (bytes_of e) → (write_outcome (Ok n) ≡ writing e (length out)) × (new ≡ written e out)
+    unfolding writing written
+    wrote n s h new b =
+        let fits = le-ltb (length out) (size e) (omega (arith, s)) in
+        (rw (a, fits, s), rw (a, fits) (b ∙ put_front (bytes_of e) out (size e) (bytes_size e) (omega (arith, s))))
 
 pub returns-then-not-is_allowed : goal.returns-then-not-is_allowed
-unfolding writing written
-returns-then-not-is_allowed c =
-    let bad : allowed c.args.e ≡ false = sym c.is_allowed.ensures ∙ c.if-not-is_allowed.true in
-    (rw bad, rw bad)
-
-pub offset_bounds-kind : goal.offset_bounds-kind
-offset_bounds-kind c = omega (arith, c.kind_of-kind.ensures, kind_lt c.args.e)
-
-pub bounds-kind : goal.bounds-kind
-bounds-kind c = omega (arith, c.kind_of-kind.ensures, kind_lt c.args.e)
-
-pub overflow_add-n : goal.overflow_add-n
-overflow_add-n c = omega (arith, sized c.args.e c.kind_of-kind.ensures, size_le c.args.e)
+returns-then-not-is_allowed c = outside _ _ (search rules)
 
 pub returns-then-out-n : goal.returns-then-out-n
-unfolding writing written
-returns-then-out-n c =
-    let a = c.args in
-    let short = lt-ltb (length a.out.now) (size a.e) (omega (arith, sized c.args.e c.kind_of-kind.ensures, c.if-out-n.true)) in
-    let allows : allowed a.e ≡ true = sym c.is_allowed.ensures ∙ c.if-not-is_allowed.false in
-    (rw (allows, short), rw (allows, short))
-
-pub put_entry-requires : goal.put_entry-requires
-put_entry-requires c = omega (arith, sized c.args.e c.kind_of-kind.ensures, c.if-out-n.false)
+returns-then-out-n c = no_room _ _ (search rules) (search rules)
 
 pub returns : goal.returns
-unfolding writing written
+unfolding bytes_of
 returns c =
-    let a = c.args in
-    let allows : allowed a.e ≡ true = sym c.is_allowed.ensures ∙ c.if-not-is_allowed.false in
-    let h : size a.e ≤ length a.out.now = omega (arith, sized c.args.e c.kind_of-kind.ensures, c.if-out-n.false) in
-    let fits = le-ltb (length a.out.now) (size a.e) h in
-    (rw (allows, fits, sized c.args.e c.kind_of-kind.ensures), rw (allows, fits) (c.put_entry.ensures ∙ put_front (bytes_of a.e) a.out.now (size a.e) (bytes_size a.e) h))
+    let s : 1 + c.body_length-n.result ≡ size c.args.e = rw (c.body_length-n.ensures, c.kind-kind.ensures) (omega arith) in
+    wrote _ _ (search rules) _ s c.if-out-n.false _ (c.put_body.ensures ∙ rw (c.number.ensures, c.kind-kind.ensures))
