@@ -65,13 +65,13 @@ pub enum Kind {
 const BODY_LENGTHS: [usize; 9] = [0, 4, 14, 15, 4, 13, 4, 9, 22];
 
 impl Kind {
-    pub fn number(self) -> u8
+    pub(crate) fn number(self) -> u8
         ensures { result ≡ kind_number self }
     {
         self as u8
     }
 
-    pub fn body_length(self) -> usize
+    pub(crate) fn body_length(self) -> usize
         ensures { result ≡ body_length (kind_number self) }
     {
         BODY_LENGTHS[self as usize]
@@ -79,7 +79,7 @@ impl Kind {
 }
 
 impl Entry {
-    pub fn kind(&self) -> Kind
+    pub(crate) fn kind(&self) -> Kind
         ensures { kind_number result ≡ kind_of self.now }
     {
         match self {

@@ -28,7 +28,7 @@ pub struct Ending {
 
 impl Ending {
     // An ending of these parts.
-    pub fn new(why: End, turns: u64, input: Input, output: Output) -> Self
+    pub(crate) fn new(why: End, turns: u64, input: Input, output: Output) -> Self
         ensures { result ≡ record { why = why; turns = turns; input = input; output = output } }
     {
         Ending {

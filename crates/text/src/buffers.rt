@@ -57,7 +57,7 @@ impl<const N: usize> Buffer<N> {
     }
 
     // Puts one byte behind those there are.
-    pub fn put_byte(&mut self, byte: u8)
+    pub(crate) fn put_byte(&mut self, byte: u8)
         requires { length self.old < N }
         ensures { self.new ≡ self.old ++ byte ∷ [] }
     {
@@ -87,7 +87,7 @@ impl<const N: usize> Buffer<N> {
     }
 
     // Reads once, behind the bytes there are; answers what the reader did.
-    pub fn read_from<R: Read>(&mut self, from: &mut R) -> io::Result<usize>
+    pub(crate) fn read_from<R: Read>(&mut self, from: &mut R) -> io::Result<usize>
         ensures same { take (length self.old) self.new ≡ self.old }
         ensures count { length self.new ≡ length self.old + came result }
     {
