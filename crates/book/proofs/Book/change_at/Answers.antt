@@ -6,8 +6,7 @@ use native.Mathlib.Omega.{arith}
 use lib.ListN.{length, get_or}
 use Rattle.std.proofs.Common.{Result, Ok, Err}
 use Rattle.std.proofs.lemmas.Result.{err_from_is_err_and}
-use Rattle.book.specs.rules.State.{State, view, no_period, pack, held_by, removed}
-use Rattle.book.specs.rules.Purses.{after_drawing}
+use Rattle.book.specs.rules.State.{State, view, no_period, held_by, removed}
 use Rattle.book.specs.rules.Refusals.{Input, barring}
 use Rattle.book.specs.inner.OnePeriod.{Affects, effect, effect_of}
 use Rattle.book.specs.rules.Insides.{record_of}
