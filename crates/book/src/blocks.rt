@@ -13,7 +13,6 @@ use crate::entries::Entry;
 use crate::feed::read_next;
 use crate::lines::{LINE, put_line};
 use crate::reader::Found;
-use exact::{PLACES, put_cells};
 
 // What a run leaves: the book, the place of the next entry, and how many words of lines it wrote.
 #[derive(Clone, Copy)]
@@ -29,7 +28,7 @@ fn clear(words: &mut [u64], n: usize, accepted: bool)
     ensures { words.new ≡ cleared accepted n words.old }
 {
     if accepted {
-        put_cells(words, n, [0; PLACES]);
+        words[..n].fill(0);
     }
 }
 
@@ -64,7 +63,7 @@ pub fn run(first: Book, bytes: &[u8], from: usize, words: &mut [u64], lines: &mu
         if let Some(j) = b.place_added_to(entry, words.len()) {
             let (n, held) = (b.n, b.held);
             let posted = b.periods[j].post_amounts(n, held, bytes, place, lines, wrote);
-            clear(words, b.n, posted.accepted);
+            clear(words, n, posted.accepted);
             place = posted.place;
             wrote = posted.wrote;
             continue;

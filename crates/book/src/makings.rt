@@ -118,14 +118,10 @@ fn no_making() -> Making
 pub fn new(m: Making) -> Made
     ensures { (number_of result.answer ≡ (made m).answer) × (result.book ≡ pack (made m).state) }
 {
-    match making_answer(m) {
-        Ok(()) => Made {
-            answer: Ok(()),
-            book: empty_book(kept(m)),
-        },
-        Err(refusal) => Made {
-            answer: Err(refusal),
-            book: empty_book(no_making()),
-        },
+    let answer = making_answer(m);
+    let makes = if answer.is_ok() { kept(m) } else { no_making() };
+    Made {
+        answer,
+        book: empty_book(makes),
     }
 }

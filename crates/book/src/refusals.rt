@@ -123,7 +123,7 @@ impl Period {
                 participant,
                 cents,
                 ..
-            } => self.receipt_answer(n, participant as usize, barred, cents),
+            } => self.receipt_answer(n, usize::from(participant), barred, cents),
             Entry::Settle { .. } => self.settle_answer(),
             _ => Ok(()),
         }

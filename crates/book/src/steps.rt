@@ -14,7 +14,6 @@ ghost use Rattle.book.specs.declared.entries.Entry.TheVariants.{Open, Purse};
 use crate::answers::{Answer, Refusal};
 use crate::entries::Entry;
 use crate::{Book, Period};
-use exact::{PLACES, put_cells};
 
 // The answer to an entry, the rounds of a settlement, and the book that it leaves: a refused call hands its book back too.
 #[derive(Clone, Copy)]
@@ -42,7 +41,7 @@ impl Book {
                 period,
                 participant,
                 ..
-            } => self.has_earlier_arrears(participant as usize, period),
+            } => self.has_earlier_arrears(usize::from(participant), period),
             _ => false,
         }
     }
@@ -52,9 +51,8 @@ impl Book {
         requires { Entered (view self.old) (record { entry = Open period; words = words.old }) }
         ensures { Enters self.old (record { entry = Open period; words = words.old }) result self.new words.new }
     {
-        let n = self.n;
         self.opening_answer(period)?;
-        put_cells(words, n, [0; PLACES]);
+        words[..self.n].fill(0);
         self.add_period(Period::fresh(period));
         Ok(Accepted { rounds: 0, paid: 0 })
     }
@@ -64,9 +62,8 @@ impl Book {
         requires { Entered (view self.old) (record { entry = Purse i cents; words = words.old }) }
         ensures { Enters self.old (record { entry = Purse i cents; words = words.old }) result self.new words.new }
     {
-        let n = self.n;
         self.purse_answer(i, cents)?;
-        put_cells(words, n, [0; PLACES]);
+        words[..self.n].fill(0);
         self.held += cents;
         self.purses[i] += cents;
         Ok(Accepted { rounds: 0, paid: 0 })
@@ -133,7 +130,7 @@ impl Book {
         match e {
             Entry::Open { period } => self.open_period(period, words),
             Entry::Purse { participant, cents } => self.raise_purse(
-                participant as usize,
+                usize::from(participant),
                 cents,
                 words,
             ),
@@ -146,16 +143,10 @@ impl Book {
 pub fn apply(mut b: Book, e: Entry, words: &mut [u64]) -> Applied
     ensures { replied result words.new ≡ reply b (record { entry = e; words = words.old }) }
 {
-    match b.enter(e, words) {
-        Ok(accepted) => Applied {
-            answer: Ok(()),
-            rounds: accepted.rounds,
-            book: b,
-        },
-        Err(refusal) => Applied {
-            answer: Err(refusal),
-            rounds: 0,
-            book: b,
-        },
+    let entered = b.enter(e, words);
+    Applied {
+        answer: entered.map(|_| ()),
+        rounds: entered.map_or(0, |accepted| accepted.rounds),
+        book: b,
     }
 }

@@ -3,7 +3,7 @@ use mathlib.Core.Path.{◌≡◌, refl}
 use mathlib.Core.Bool.{not}
 use borrow.Author.Tests.{eqb-false}
 use lib.Dec.{eqb}
-use Rattle.std.proofs.Common.{Ok, Err, is_err}
+use Rattle.std.proofs.Common.{Ok, Err, is_err, is_ok}
 use Rattle.book.specs.declared.answers.Refusal.{Refusal}
 use Rattle.book.specs.declared.answers.Refusal.TheVariants as refusal
 use Rattle.book.specs.rules.Answers.{Answer, number_of}
@@ -27,3 +27,7 @@ number_test (Err refusal.Misdated) = refl
 
 pub refusal_number : (why : Refusal) → number_of (Err why) ≡ 0 → ⊥
 refusal_number why = eqb-false _ _ (number_test (Err why))
+
+pub ok_test : (a : Answer) → eqb (number_of a) 0 ≡ is_ok a
+ok_test (Ok _) = refl
+ok_test (Err why) = number_test (Err why)

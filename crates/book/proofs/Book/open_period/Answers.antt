@@ -1,8 +1,7 @@
 use mathlib.Core.Path.{refl, sym, ap, subst, ◌∙◌}
 use native.Mathlib.Omega.{arith}
 use Rattle.std.proofs.lemmas.Result.{err_from_is_err_and}
-use lib.ListN.{replicate}
-use Rattle.exact.specs.Rows.{places, at, filled}
+use Rattle.exact.specs.Rows.{places}
 use Rattle.book.specs.rules.Periods.{zeros}
 use Rattle.book.specs.rules.State.{view, pack, held_in, added}
 use Rattle.book.specs.rules.Refusals.{Input}
@@ -11,6 +10,7 @@ use Rattle.book.specs.rules.Step.{payout_words, opened}
 use Rattle.book.specs.declared.entries.Entry.TheVariants.{Open}
 use Rattle.book.specs.declared.Period.{Period}
 use Rattle.book.specs.declared.Book.{Book}
+use Rattle.book.proofs.rules.WordLaws.{nothing_paid}
 use Rattle.book.proofs.rules.LimitLaws.{many_places}
 use Rattle.book.proofs.rules.ValidLaws.{fresh_in_book, fresh_holds}
 use Rattle.book.proofs.rules.StepLaws.{opens, accepted_opens}
@@ -39,7 +39,7 @@ returns c =
     let x : Input = record { entry = Open c.args.period; words = c.args.words.now } in
     let passed = sym c.in_ok-opening_answer.ensures in
     let book = c.add_period.ensures ∙ ap (λ (p : Period). pack (added (view b) p)) c.fresh.ensures in
-    let words = c.put_cells.ensures ∙ ap (λ (b : Book). filled (at (replicate places 0)) b.n x.words) c.self.view_is in
+    let words = nothing_paid _ x.words _ (many_places c.self.invariant.fit) (rw (← c.self.view_is) at c.requires).enough (c.fill.ensures.after (λ y q. q)) ∙ ap (λ (b : Book). payout_words b.n (zeros places) x.words) c.self.view_is in
     enters_unpaid v x.entry x.words _ _
     (accepts v x.entry x.words (opened (view b) c.args.period x.words) _ (to_open v _ _ c.requires refl ∙ passed) (accepted_opens (view b) x (opens (view b) x refl passed))
     (λ z. record { answer = 0; rounds = 0; book = book z; words = words z }))

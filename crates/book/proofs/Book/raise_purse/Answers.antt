@@ -16,6 +16,8 @@ use Rattle.book.specs.inner.Entering.{Enters}
 use Rattle.book.specs.inner.Ways.{Entered}
 use Rattle.book.specs.declared.entries.Entry.TheVariants.{Purse}
 use Rattle.book.specs.declared.Book.{Book}
+use Rattle.book.proofs.rules.LimitLaws.{many_places}
+use Rattle.book.proofs.rules.WordLaws.{nothing_paid}
 use Rattle.book.proofs.rules.Passing.{purse_fields}
 use Rattle.book.proofs.rules.StepLaws.{raises}
 use Rattle.book.proofs.records.Packing.{kept_held, raise}
@@ -62,12 +64,14 @@ invariant_of-self c =
     let v = c.self.invariant in
     let passed = rw (← c.self.view_is) at c.in_ok-purse_answer.ensures in
     let r = rw (← c.self.view_is) at c.requires in
+    let words = nothing_paid _ c.args.words.now _ (many_places c.self.invariant.fit) r.enough (c.fill.ensures.after (λ y q. q)) in
     let x : Input = record { entry = Purse c.args.i c.args.cents; words = c.args.words.now } in
-    enters_valid v x (Ok (record { rounds = 0; paid = 0 })) (raise (record_of c.self.inside) c.args.i c.args.cents) c.put_cells.new.out (raised_left v c.args.i c.args.cents c.args.words.now _ r (sym passed) c.put_cells.ensures)
+    enters_valid v x (Ok (record { rounds = 0; paid = 0 })) (raise (record_of c.self.inside) c.args.i c.args.cents) _ (raised_left v c.args.i c.args.cents c.args.words.now _ r (sym passed) words)
 
 pub returns : goal.returns
 unfolding raised zeros payout_words
 returns c =
     let passed = rw (← c.self.view_is) at c.in_ok-purse_answer.ensures in
     let r = rw (← c.self.view_is) at c.requires in
-    rw (← c.self.view_is) (raised_left c.self.invariant c.args.i c.args.cents c.args.words.now _ r (sym passed) c.put_cells.ensures)
+    let words = nothing_paid _ c.args.words.now _ (many_places c.self.invariant.fit) r.enough (c.fill.ensures.after (λ y q. q)) in
+    rw (← c.self.view_is) (raised_left c.self.invariant c.args.i c.args.cents c.args.words.now _ r (sym passed) words)

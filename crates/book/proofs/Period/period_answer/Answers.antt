@@ -35,13 +35,13 @@ returns-in-Some c =
 pub receipt_answer-requires : goal.receipt_answer-requires
 receipt_answer-requires c =
     let v = c.in-Receipt in
-    (receipt_inside v.period v.participant v.cents (rw c.in-Receipt.is at c.requires.1)).0
+    rw c.from.ensures (receipt_inside v.period v.participant v.cents (rw c.in-Receipt.is at c.requires.1)).0
 
 pub returns-in-Notice : goal.returns-in-Notice
 returns-in-Notice c = c.notice_answer.ensures ∙ rw c.in-Notice.is
 
 pub returns-in-Receipt : goal.returns-in-Receipt
-returns-in-Receipt c = c.receipt_answer.ensures ∙ rw c.in-Receipt.is
+returns-in-Receipt c = c.receipt_answer.ensures ∙ rw (c.from.ensures, c.in-Receipt.is)
 
 pub returns-in-Settle : goal.returns-in-Settle
 returns-in-Settle c = c.settle_answer.ensures ∙ rw c.in-Settle.is
