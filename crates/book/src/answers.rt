@@ -22,7 +22,8 @@ pub enum Refusal {
 }
 
 impl Refusal {
-    // The number that the rules give it.
+    // The number that the rules give it. `ReadError` and `WriteError` have the same method: each is numbered by a definition of its own,
+    // so a trait would take three impls of this line, with that definition in each.
     pub fn number(self) -> u64
         ensures { result ≡ number_of (Err self) }
     {

@@ -47,7 +47,8 @@ impl Book {
 }
 
 // Reads and enters entries from a place on, up to one that cannot be read or has paid, while there is room for lines.
-// Energy, amounts and washups are added to their period for as long as they follow each other.
+// Energy, amounts and washups are added to their period for as long as they follow each other. Place and words written are counted,
+// and the lines no iterator's chunks: `run` answers both, and one turn may put many lines.
 pub fn run(first: Book, bytes: &[u8], from: usize, words: &mut [u64], lines: &mut [u64]) -> Ran
     ensures { let x = run bytes.now (length lines.old) first from words.old in
         (result.book ≡ x.book) × (result.place ≡ x.place) × (result.wrote ≡ length x.lines) × (words.new ≡ x.words)

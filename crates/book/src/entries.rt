@@ -61,7 +61,7 @@ pub enum Kind {
     Washup = 8,
 }
 
-// The length of a body, by kind; there is no kind 0.
+// The length of a body, by kind; there is no kind 0. A constant array, as the definition `body_lengths` is a list.
 const BODY_LENGTHS: [usize; 9] = [0, 4, 14, 15, 4, 13, 4, 9, 22];
 
 impl Kind {

@@ -1,5 +1,5 @@
-// The feed reader: the bytes lent to it, and the place of the next entry. Its functions are not methods, since callers above have
-// them by these names.
+// The feed reader: the bytes lent to it, and the place of the next entry. Its functions are public by these names, so they are no
+// methods.
 ghost use Rattle.std.specs.Prelude.{◌≡◌};
 ghost use Rattle.book.specs.layouts.Reading.{reading, read_outcome};
 

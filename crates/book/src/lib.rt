@@ -52,7 +52,9 @@ pub enum Stage {
 }
 
 // A period: each side's total, and rows of cents with a cell for each participant. `payable` is 0 until the notice,
-// `paid`, `claim` and `arrears` are 0 until the settlement.
+// `paid`, `claim` and `arrears` are 0 until the settlement. The rows stand beside the stage, and in no variant of it, so that a period
+// is one struct of flat arrays that is handed over by value. What is true of a period (`Sound`) is no ghost field: it takes the n
+// of its book, which a period does not have.
 #[derive(Clone, Copy)]
 pub struct Period {
     number: u32,

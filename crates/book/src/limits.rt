@@ -12,7 +12,8 @@ pub struct Limits {
     pub periods: usize,
 }
 
-// The market's limits: as many as there are places.
+// The market's limits: as many as there are places. These and those of a demonstration are two functions by name, as in the
+// definitions `market` and `demonstration`, for callers above.
 pub fn market() -> Limits
     ensures { result ≡ market }
 {

@@ -28,7 +28,8 @@ impl Period {
         }
     }
 
-    // Whether the period is settled and earlier than a number, and i has arrears in it.
+    // Whether the period is settled and earlier than a number, and i has arrears in it. Here and where purses and receipts are tested i
+    // is a plain number below `places`: closures over the cells of a row are handed such numbers, so a type for it would be made anew.
     #[tactic(auto, unfolding(crate::specs::rules::State::arrears_before))]
     pub(crate) fn has_arrears_before(&self, i: usize, number: u32) -> bool
         requires { i < places }

@@ -1,13 +1,13 @@
 // Purses for money paid early: what is added to one, and what a settlement draws from them.
-ghost use Rattle.std.specs.Prelude.{◌≡◌, false, cond, ℕ, ◌-◌, ◌≤◌, ◌<◌, min, ltb};
-ghost use Rattle.exact.specs.Rows.{places, at, cells};
+ghost use Rattle.std.specs.Prelude.{◌≡◌, cond, ℕ, ◌-◌, ◌≤◌, ◌<◌, min};
+ghost use Rattle.exact.specs.Rows.{places, at};
 ghost use Rattle.book.specs.Checks.{refusal};
 ghost use Rattle.book.specs.layouts.Allowed.{cents_limit};
 ghost use Rattle.book.specs.rules.Answers.{number_of};
-ghost use Rattle.book.specs.rules.Periods.{is_noticed, is_settled};
+ghost use Rattle.book.specs.rules.Periods.{is_noticed};
 ghost use Rattle.book.specs.rules.Purses.{with_drawn, purses_left};
 ghost use Rattle.book.specs.rules.Refusals.{purse_checks};
-ghost use Rattle.book.specs.rules.State.{view, arrears_before, earlier_arrears};
+ghost use Rattle.book.specs.rules.State.{view, earlier_arrears};
 ghost use Rattle.book.specs.rules.Valid.{Sound};
 
 use crate::answers::{Answer, Refusal};

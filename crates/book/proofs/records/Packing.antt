@@ -14,7 +14,7 @@ use Rattle.settlement.specs.declared.groups.Grouping.{Grouping}
 use Rattle.book.specs.rules.Periods.{fresh, raised}
 use Rattle.book.specs.rules.Limits.{period_places}
 use Rattle.book.specs.rules.State.{State, view, pack, cents_held, held_by, no_period, arrears_before, earlier_arrears, replaced, removed, added, with_periods, with_purses}
-use Rattle.book.specs.rules.Valid.{InBook, Valid}
+use Rattle.book.specs.rules.Valid.{Sound, InBook, Valid}
 use Rattle.book.specs.declared.limits.Limits.{Limits}
 use Rattle.book.specs.declared.Period.{Period}
 use Rattle.book.specs.declared.Book.{Book}
@@ -46,6 +46,17 @@ module _ {b : Book} (v : Valid b) where
 
     pub read_in_book : InBook b.n b.grouping (get_or b.periods k no_period)
     read_in_book = subst (InBook b.n b.grouping) (sym read_at) (all_at (InBook b.n b.grouping) (view b).periods k no_period (omega (arith, count_is)) v.fit.each)
+
+-- the record s that stands behind a book seen as s₀: a place in use is one of the places, and its period is sound
+module _ {s₀ s : Book} (same : s ≡ s₀) (v : Valid s) {j : ℕ} (used : j < s₀.count) where
+  seen_used : j < s.count
+  seen_used = omega (arith, used, ap (λ (b : Book). b.count) same)
+
+  pub place_few : j < period_places
+  place_few = omega (arith, count_few v, seen_used)
+
+  pub place_sound : Sound s.n (get_or s.periods j no_period)
+  place_sound = (read_in_book v j seen_used).sound
 
 -- the record with other cents held, in as many periods, and other purses
 abbrev pub renewed : Book → ℕ → List Period → List ℕ → Book

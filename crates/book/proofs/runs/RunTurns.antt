@@ -13,13 +13,14 @@ use Rattle.exact.proofs.Cases.{cases}
 use Rattle.book.specs.Checks.{refusal}
 use Rattle.book.specs.rules.Kinds.{period_of, is_amount, addition}
 use Rattle.book.specs.rules.Periods.{with_addition}
-use Rattle.book.specs.layouts.Reading.{reading}
+use Rattle.book.specs.layouts.Reading.{ReadOutcome, reading}
 use Rattle.book.specs.rules.State.{view, no_period}
 use Rattle.book.specs.rules.Refusals.{period_checks}
 use Rattle.book.specs.rules.Step.{Reply}
+use Rattle.book.specs.rules.Answers.{number_of}
 use Rattle.book.specs.rules.Valid.{Valid}
 use Rattle.book.specs.inner.Ways.{NamedAt}
-use Rattle.book.specs.inner.Entering.{reply_of, paid_of, Enters}
+use Rattle.book.specs.inner.Entering.{Enters}
 use Rattle.book.specs.inner.Postings.{Postings, posts, postings, cleared}
 use Rattle.book.specs.declared.answers.Refusal.{Refusal}
 use Rattle.book.specs.declared.steps.Accepted.{Accepted}
@@ -41,13 +42,21 @@ named_number {b} {e} {room} {j} v m =
 named_taken : {b : Book} {e : Entry} {j : ℕ} (words : List ℕ) → Valid b → NamedAt b e (length words) j → Taken b j words
 named_taken words v m = record { valid = v; some = m.some; enough = m.enough; used = m.used; at_place = rw (named_number v m) m.at_place }
 
--- the turn of an entry that was entered is the reply's
-pub entered_turn : (b : Book) (e : Entry) (words lines : List ℕ) (wrote : ℕ) (r : Result Accepted Refusal) (b' : Book) (words' lines' : List ℕ)
-    → Enters b (record { entry = e; words = words }) r b' words' → lines' ≡ sets lines wrote ((reply_of r b' words').answer ∷ paid_of r ∷ b'.held ∷ []) → Turn b e words lines wrote b' (paid_of r) words' lines'
-entered_turn b e words lines wrote (Ok r) b' words' lines' q l =
-    (ap (λ (x : Reply). x.book) q.0, q.1, ap (λ (x : Reply). x.words) q.0, l ∙ (λ i. sets lines wrote (ap (λ (x : Reply). x.answer) q.0 i ∷ q.1 i ∷ ap (λ (x : Reply). x.book.held) q.0 i ∷ [])))
-entered_turn b e words lines wrote (Err why) b' words' lines' q l =
-    (ap (λ (x : Reply). x.book) q.0, q.1, ap (λ (x : Reply). x.words) q.0, l ∙ (λ i. sets lines wrote (ap (λ (x : Reply). x.answer) q.0 i ∷ q.1 i ∷ ap (λ (x : Reply). x.book.held) q.0 i ∷ [])))
+-- what the program tells of an entry that was entered: its answer, and the cents paid
+abbrev pub Told : Result Accepted Refusal → (answer paid : ℕ) → Type 0
+Told (Ok r) answer paid = (answer ≡ 0) × (paid ≡ r.paid)
+Told (Err why) answer paid = (answer ≡ number_of (Err why)) × (paid ≡ 0)
+
+-- the turn of an entry that was entered is the reply's, once its line is put
+pub entered_turn : (b : Book) (e : Entry) (words lines : List ℕ) (wrote : ℕ) (r : Result Accepted Refusal) (b' : Book) (words' lines' : List ℕ) (answer paid held : ℕ)
+    → Enters b (record { entry = e; words = words }) r b' words' → Told r answer paid → held ≡ b'.held → lines' ≡ sets lines wrote (answer ∷ paid ∷ held ∷ [])
+    → Turn b e words lines wrote b' paid words' lines'
+entered_turn b e words lines wrote (Ok r) b' words' lines' answer paid held q told same l =
+    let answers = told.0 ∙ ap (λ (x : Reply). x.answer) q.0 in
+    (ap (λ (x : Reply). x.book) q.0, told.1 ∙ q.1, ap (λ (x : Reply). x.words) q.0, l ∙ (λ i. sets lines wrote (answers i ∷ (told.1 ∙ q.1) i ∷ (same ∙ ap (λ (x : Reply). x.book.held) q.0) i ∷ [])))
+entered_turn b e words lines wrote (Err why) b' words' lines' answer paid held q told same l =
+    let answers = told.0 ∙ ap (λ (x : Reply). x.answer) q.0 in
+    (ap (λ (x : Reply). x.book) q.0, told.1 ∙ q.1, ap (λ (x : Reply). x.words) q.0, l ∙ (λ i. sets lines wrote (answers i ∷ (told.1 ∙ q.1) i ∷ (same ∙ ap (λ (x : Reply). x.book.held) q.0) i ∷ [])))
 
 -- the lines of postings take no more room than there is
 module _ (bytes : List ℕ) (n held : ℕ) where
@@ -74,8 +83,16 @@ module _ (bytes : List ℕ) (n held : ℕ) where
   some_line (suc (suc zero)) p place accepted e h q y = absurd (omega arith)
   some_line (suc (suc (suc room))) p place accepted e h q y = rw (q, y) (omega arith)
 
-module _ (bytes : List ℕ) (b₀ : Book) (from : ℕ) (words₀ before : List ℕ) {b : Book} {place : ℕ} {words lines : List ℕ} {wrote : ℕ}
-    (s : Standing bytes b₀ from words₀ before b place words lines wrote) (valid : Valid b) {j : ℕ} {e : Entry} (read : (reading bytes place).entry ≡ e ∷ []) (named : NamedAt b e (length words) j) (amount : is_amount e ≡ true) where
+-- the record b behind the book b₁ of the turn, whose period at place j the entry that was read adds to
+module _ (bytes : List ℕ) (b₀ : Book) (from : ℕ) (words₀ before : List ℕ) {b₁ b : Book} {place : ℕ} {words lines : List ℕ} {wrote : ℕ} (seen : b ≡ b₁)
+    (stands : Standing bytes b₀ from words₀ before b₁ place words lines wrote) (valid : Valid b) {j next : ℕ} {e : Entry} (found : reading bytes place ≡ record { answer = 0; place = next; entry = e ∷ [] })
+    (told : NamedAt b₁ e (length words) j × (is_amount e ≡ true)) where
+  s : Standing bytes b₀ from words₀ before b place words lines wrote
+  s = rw (← seen) at stands
+
+  named : NamedAt b e (length words) j
+  named = (rw (← seen) at told).0
+
   abbrev x : Postings
   x = postings bytes b.n b.held (length lines - wrote) (get_or b.periods j no_period) place false
 
@@ -101,5 +118,5 @@ module _ (bytes : List ℕ) (b₀ : Book) (from : ℕ) (words₀ before : List �
       subst (λ (p : Period). Valid (put b j p b.held b.purses)) (sym q) (postings_valid bytes (length lines - wrote) b j place words (named_taken words valid named))
 
   pub amounts_some : 3 ≤ length lines - wrote → 3 ≤ length (postings bytes b.n b.held (length lines - wrote) (get_or b.periods j no_period) place false).lines
-  amounts_some h = some_line bytes b.n b.held (length lines - wrote) (get_or b.periods j no_period) place false e h read
-      (posts_it (get_or b.periods j no_period).number e (sym (named_number valid named)) amount)
+  amounts_some h = some_line bytes b.n b.held (length lines - wrote) (get_or b.periods j no_period) place false e h (ap (λ (o : ReadOutcome). o.entry) found)
+      (posts_it (get_or b.periods j no_period).number e (sym (named_number valid named)) told.1)

@@ -5,10 +5,10 @@ use mathlib.Core.List.{List}
 use native.Mathlib.Omega.{arith}
 use Rattle.std.proofs.lemmas.Result.{err_from_is_err_and}
 use Rattle.exact.specs.Rows.{at, sum}
-use Rattle.settlement.specs.declared.groups.Grouping.{Grouping}
 use Rattle.book.specs.Checks.{refusal}
 use Rattle.book.specs.rules.Insides.{record_of}
 use Rattle.book.specs.inner.OnePeriod.{Affects}
+use Rattle.book.specs.declared.Book.{Book}
 use Rattle.book.specs.declared.Period.{Period}
 use Rattle.book.specs.declared.entries.Entry.{Entry}
 use Rattle.book.specs.rules.Kinds.{receipt_cents}
@@ -21,16 +21,21 @@ use Rattle.book.proofs.rules.EntryChanges.{entry_changes, change_cents}
 use Rattle.book.proofs.records.Effects.{effect_accepted, effect_refused}
 use Rattle.book.proofs.Book.apply_to_period.Goals as goal
 
--- what is paid is what was held and came in, less what is held now
-paid_within : (n : ℕ) (grouping : Grouping) (e : Entry) (barred : Bool) (p : Period) (held : ℕ) (w : List ℕ) → Affects n grouping e p held w
-    → refusal (period_checks n barred e p) ≡ 0 → sum (at (changed n grouping e p).pays) n ≤ held + receipt_cents e
-paid_within n grouping e barred p held w r z =
-    let d = entry_changes n p r.in_book e barred r.not_open r.not_purse r.fields z in
-    omega (arith, change_cents n p r.in_book.sound (receipt_cents e) _ d, r.within)
+-- what is asked of the book s₀ holds of the record s behind it
+module _ {s₀ s : Book} (same : s ≡ s₀) {e : Entry} {p : Period} {w : List ℕ} (asked : Affects s₀.n s₀.grouping e p s₀.held w) where
+  affects : Affects s.n s.grouping e p s.held w
+  affects = rw (← same) at asked
+
+  -- what is paid is what was held and came in, less what is held now
+  paid_within : (barred : Bool) → 0 ≡ refusal (period_checks s.n barred e p) → sum (at (changed s.n s.grouping e p).pays) s.n ≤ s.held + receipt_cents e
+  paid_within barred passed =
+      let r = affects in
+      let d = entry_changes s.n p r.in_book e barred r.not_open r.not_purse r.fields (sym passed) in
+      omega (arith, change_cents s.n p r.in_book.sound (receipt_cents e) _ d, r.within)
 
 pub period_answer-requires : goal.period_answer-requires
 period_answer-requires c =
-    let r = rw (← c.self.view_is) at c.requires in
+    let r = affects c.self.view_is c.requires in
     (r.in_book.sound, r.fields)
 
 pub returns-in_err-period_answer : goal.returns-in_err-period_answer
@@ -44,33 +49,27 @@ returns-in_err-period_answer c =
 
 pub change_period-change-requires : goal.change_period-change-requires
 change_period-change-requires c =
-    let r = rw (← c.self.view_is) at c.requires in
+    let r = affects c.self.view_is c.requires in
     (r.in_book, r.grouped, r.not_open, r.fields, record { barred = _; passed = sym c.in_ok-period_answer.ensures })
 
 pub put_cells-requires : goal.put_cells-requires
 put_cells-requires c =
-    let r = rw (← c.self.view_is) at c.requires in
+    let r = affects c.self.view_is c.requires in
     (omega (arith, r.many), omega (arith, r.enough))
 
 pub overflow_add-result : goal.overflow_add-result
-overflow_add-result c =
-    let r = rw (← c.self.view_is) at c.requires in
-    omega (arith, c.receipt_cents.ensures, r.fits)
+overflow_add-result c = omega (arith, c.receipt_cents.ensures, (affects c.self.view_is c.requires).fits)
 
 pub total-paid-requires : goal.total-paid-requires
 total-paid-requires c =
-    let s = c.args in
-    let b = record_of c.self.inside in
-    let r = rw (← c.self.view_is) at c.requires in
-    (r.many, rw (ap (λ (x : period.Change). x.pays) c.change_period-change.ensures) (omega (arith, paid_within b.n b.grouping s.e s.barred s.p b.held s.words.now r (sym c.in_ok-period_answer.ensures), r.fits)))
+    let r = affects c.self.view_is c.requires in
+    let fits = paid_within c.self.view_is c.requires c.args.barred c.in_ok-period_answer.ensures in
+    (r.many, rw (ap (λ (x : period.Change). x.pays) c.change_period-change.ensures) (omega (arith, fits, r.fits)))
 
 pub overflow_sub-result : goal.overflow_sub-result
 overflow_sub-result c =
-    let s = c.args in
-    let b = record_of c.self.inside in
-    let r = rw (← c.self.view_is) at c.requires in
-    let t = c.total-paid.ensures ∙ ap (λ (x : period.Change). sum (at x.pays) b.n) c.change_period-change.ensures in
-    omega (arith, t, c.receipt_cents.ensures, paid_within b.n b.grouping s.e s.barred s.p b.held s.words.now r (sym c.in_ok-period_answer.ensures))
+    let t = c.total-paid.ensures ∙ ap (λ (x : period.Change). sum (at x.pays) c.self.inside.n) c.change_period-change.ensures in
+    omega (arith, t, c.receipt_cents.ensures, paid_within c.self.view_is c.requires c.args.barred c.in_ok-period_answer.ensures)
 
 pub returns : goal.returns
 unfolding payout_words
