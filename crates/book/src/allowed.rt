@@ -1,10 +1,17 @@
 // The values that fields may have, tested for reader, writer and book alike.
-ghost use Rattle.std.specs.Prelude.{◌≡◌, not};
+ghost use Rattle.std.specs.Prelude.{◌≡◌, true, false, not, MatchOption};
 ghost use Rattle.book.specs.layouts.Allowed.{allowed, none, tier_outside, cents_outside, energy_outside, receipt_outside};
 
 use crate::entries::Entry;
 use exact::PLACES;
 use settlement::TIERS;
+
+// An entry each of whose fields has one of its values.
+#[derive(Clone, Copy)]
+pub(crate) struct Allowed {
+    pub(crate) entry: Entry,
+    ghost fields: { allowed entry ≡ true },
+}
 
 const PARTICIPANTS: u8 = PLACES as u8;
 
@@ -85,5 +92,15 @@ impl Entry {
             } => old <= QUANTITY_LIMIT && energy_allowed(participant, side, new, price),
             Entry::Open { .. } | Entry::Notice { .. } | Entry::Settle { .. } => true,
         }
+    }
+
+    // The entry with what was tested, where each field has one of its values.
+    pub(crate) fn checked(self) -> Option<Allowed>
+        ensures { MatchOption result (allowed self ≡ false) (λ a. a.entry ≡ self) }
+    {
+        if !self.is_allowed() {
+            return None;
+        }
+        Some(Allowed { entry: self })
     }
 }

@@ -2,14 +2,13 @@
 ghost use Rattle.std.specs.Prelude.{◌≤◌, ◌≡◌, true, length, IfSome};
 ghost use Rattle.std.proofs.lemmas.List.Edits.{sets};
 ghost use Rattle.exact.specs.Rows.{places};
-ghost use Rattle.book.specs.layouts.Allowed.{allowed};
 ghost use Rattle.book.specs.rules.Kinds.{is_amount};
 ghost use Rattle.book.specs.runs.Running.{run};
 ghost use Rattle.book.specs.inner.Ways.{NamedAt};
 ghost use Rattle.book.specs.inner.Postings.{cleared};
 
 use crate::Book;
-use crate::entries::Entry;
+use crate::allowed::Allowed;
 use crate::feed::read_next;
 use crate::lines::{LINE, put_line};
 use crate::reader::Found;
@@ -35,14 +34,13 @@ fn clear(words: &mut [u64], n: usize, accepted: bool)
 impl Book {
     // The place of the period whose sums the entry adds to; none where it is none of energy, amounts and washups, or is refused
     // by what the book shows without a look at a period (4, 5, 8).
-    fn place_added_to(&self, e: Entry, room: usize) -> Option<usize>
-        requires { allowed e ≡ true }
-        ensures { IfSome result (λ j. NamedAt self.now e room j × (is_amount e ≡ true)) }
+    fn place_added_to(&self, e: Allowed, room: usize) -> Option<usize>
+        ensures { IfSome result (λ j. NamedAt self.now e.entry room j × (is_amount e.entry ≡ true)) }
     {
-        if self.n == 0 || room < self.n || !e.is_amount() {
+        if self.n == 0 || room < self.n || !e.entry.is_amount() {
             return None;
         }
-        self.place(e.period())
+        self.place(e.entry.period())
     }
 }
 
@@ -61,7 +59,7 @@ pub fn run(first: Book, bytes: &[u8], from: usize, words: &mut [u64], lines: &mu
         let Ok(Found { entry, next }) = read_next(bytes, place) else {
             break;
         };
-        if let Some(j) = b.place_added_to(entry, words.len()) {
+        if let Some(j) = b.place_added_to(Allowed { entry }, words.len()) {
             let (n, held) = (b.n, b.held);
             let posted = b.periods[j].post_amounts(n, held, bytes, place, lines, wrote);
             clear(words, n, posted.accepted);

@@ -2,9 +2,9 @@
 ghost use Rattle.std.specs.Prelude.{◌≡◌};
 ghost use Rattle.book.specs.inner.OnePeriod.{Affects, effect, effect_of};
 
+use crate::allowed::Allowed;
 use crate::answers::Refusal;
 use crate::changes::change_period;
-use crate::entries::Entry;
 use crate::{Book, Period};
 use exact::{put_cells, total};
 
@@ -22,12 +22,12 @@ impl Book {
     pub(crate) fn apply_to_period(
         &self,
         p: Period,
-        e: Entry,
+        e: Allowed,
         barred: bool,
         words: &mut [u64],
     ) -> Result<Effect, Refusal>
-        requires { Affects self.now.n self.now.grouping e p self.now.held words.old }
-        ensures { effect_of p self.now.held result words.new ≡ effect self.now.n self.now.grouping e barred p self.now.held words.old }
+        requires { Affects self.now.n self.now.grouping e.entry p self.now.held words.old }
+        ensures { effect_of p self.now.held result words.new ≡ effect self.now.n self.now.grouping e.entry barred p self.now.held words.old }
     {
         p.period_answer(self.n, e, barred)?;
         let change = change_period(p, self.n, self.grouping, e);
@@ -36,7 +36,7 @@ impl Book {
         Ok(Effect {
             rounds: change.rounds,
             period: change.period,
-            held: self.held + e.receipt_cents() - paid,
+            held: self.held + e.entry.receipt_cents() - paid,
             paid,
         })
     }

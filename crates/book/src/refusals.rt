@@ -1,14 +1,14 @@
 // What an entry is answered by the period that it names, and an opening by the book.
-ghost use Rattle.std.specs.Prelude.{◌≡◌, true, ◌≤◌, ◌<◌};
+ghost use Rattle.std.specs.Prelude.{◌≡◌, ◌≤◌, ◌<◌};
 ghost use Rattle.exact.specs.Rows.{places, at};
 ghost use Rattle.settlement.specs.Month.{side_limit};
 ghost use Rattle.book.specs.Checks.{refusal};
-ghost use Rattle.book.specs.layouts.Allowed.{allowed};
 ghost use Rattle.book.specs.rules.State.{view};
 ghost use Rattle.book.specs.rules.Refusals.{receivable, side_checks, open_checks, notice_checks, receipt_checks, settle_checks, period_checks};
 ghost use Rattle.book.specs.rules.Valid.{Sound};
 ghost use Rattle.book.specs.rules.Answers.{number_of};
 
+use crate::allowed::Allowed;
 use crate::answers::{Answer, Refusal};
 use crate::entries::Entry;
 use crate::kinds::Addition;
@@ -110,14 +110,14 @@ impl Period {
     }
 
     // The checks of each kind on its period; `barred` is whether another period refuses a receipt (14).
-    pub(crate) fn period_answer(&self, n: usize, e: Entry, barred: bool) -> Answer
-        requires { Sound n self.now × (allowed e ≡ true) }
-        ensures { number_of result ≡ refusal (period_checks n barred e self.now) }
+    pub(crate) fn period_answer(&self, n: usize, e: Allowed, barred: bool) -> Answer
+        requires { Sound n self.now }
+        ensures { number_of result ≡ refusal (period_checks n barred e.entry self.now) }
     {
         if let Some(a) = e.addition() {
-            return self.amount_answer(n, a, e.is_misdated());
+            return self.amount_answer(n, a, e.entry.is_misdated());
         }
-        match e {
+        match e.entry {
             Entry::Notice { .. } => self.notice_answer(n),
             Entry::Receipt {
                 participant,

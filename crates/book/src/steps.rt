@@ -1,6 +1,5 @@
 // One entry of any kind.
 ghost use Rattle.std.specs.Prelude.{◌≡◌, true, false, length};
-ghost use Rattle.book.specs.layouts.Allowed.{allowed};
 ghost use Rattle.book.specs.rules.Kinds.{is_open, is_purse};
 ghost use Rattle.book.specs.rules.State.{view, pack};
 ghost use Rattle.book.specs.rules.Purses.{after_drawing};
@@ -11,6 +10,7 @@ ghost use Rattle.book.specs.inner.Ways.{Entered, NamedAt};
 ghost use Rattle.book.specs.inner.Entering.{Enters};
 ghost use Rattle.book.specs.declared.entries.Entry.TheVariants.{Open, Purse};
 
+use crate::allowed::Allowed;
 use crate::answers::{Answer, Refusal};
 use crate::entries::Entry;
 use crate::{Book, Period};
@@ -32,11 +32,10 @@ pub struct Accepted {
 
 impl Book {
     // Whether another period refuses the entry (14).
-    fn is_barred(&self, e: Entry) -> bool
-        requires { allowed e ≡ true }
-        ensures { result ≡ barring e (view self.now).periods }
+    fn is_barred(&self, e: Allowed) -> bool
+        ensures { result ≡ barring e.entry (view self.now).periods }
     {
-        match e {
+        match e.entry {
             Entry::Receipt {
                 period,
                 participant,
@@ -82,13 +81,13 @@ impl Book {
     }
 
     // Changes the period that the entry names, at place j; 4, 5, 3 and 8 are passed.
-    fn change_at(&mut self, e: Entry, j: usize, words: &mut [u64]) -> Result<Accepted, Refusal>
-        requires { NamedAt self.old e (length words.old) j }
-        ensures { Enters self.old (record { entry = e; words = words.old }) result self.new words.new }
+    fn change_at(&mut self, e: Allowed, j: usize, words: &mut [u64]) -> Result<Accepted, Refusal>
+        requires { NamedAt self.old e.entry (length words.old) j }
+        ensures { Enters self.old (record { entry = e.entry; words = words.old }) result self.new words.new }
     {
         let n = self.n;
         let barred = self.is_barred(e);
-        self.draw_for(e, j);
+        self.draw_for(e.entry, j);
         let effect = self.apply_to_period(self.periods[j], e, barred, words)?;
         if effect.period.is_leaving(n) {
             self.remove_period(j, effect.held);
@@ -104,11 +103,11 @@ impl Book {
 
     // Changes the period that the entry names; 4, 5 and 3 are passed. The change is a function of its own: a function sets its locals to
     // 0 at entry, which an entry refused with 8 would pay for.
-    fn change_named(&mut self, e: Entry, words: &mut [u64]) -> Result<Accepted, Refusal>
-        requires { Entered (view self.old) (record { entry = e; words = words.old }) × (is_open e ≡ false) × (is_purse e ≡ false) }
-        ensures { Enters self.old (record { entry = e; words = words.old }) result self.new words.new }
+    fn change_named(&mut self, e: Allowed, words: &mut [u64]) -> Result<Accepted, Refusal>
+        requires { Entered (view self.old) (record { entry = e.entry; words = words.old }) × (is_open e.entry ≡ false) × (is_purse e.entry ≡ false) }
+        ensures { Enters self.old (record { entry = e.entry; words = words.old }) result self.new words.new }
     {
-        let Some(j) = self.place(e.period()) else {
+        let Some(j) = self.place(e.entry.period()) else {
             return Err(Refusal::NotInBook);
         };
         self.change_at(e, j, words)
@@ -124,9 +123,9 @@ impl Book {
         if words.len() < self.n {
             return Err(Refusal::FewWords);
         }
-        if !e.is_allowed() {
+        let Some(a) = e.checked() else {
             return Err(Refusal::Outside);
-        }
+        };
         match e {
             Entry::Open { period } => self.open_period(period, words),
             Entry::Purse { participant, cents } => self.raise_purse(
@@ -134,7 +133,7 @@ impl Book {
                 cents,
                 words,
             ),
-            _ => self.change_named(e, words),
+            _ => self.change_named(a, words),
         }
     }
 }

@@ -34,9 +34,7 @@ module _ {s₀ s : Book} (same : s ≡ s₀) {e : Entry} {p : Period} {w : List 
       omega (arith, change_cents s.n p r.in_book.sound (receipt_cents e) _ d, r.within)
 
 pub period_answer-requires : goal.period_answer-requires
-period_answer-requires c =
-    let r = affects c.self.view_is c.requires in
-    (r.in_book.sound, r.fields)
+period_answer-requires c = (affects c.self.view_is c.requires).in_book.sound
 
 pub returns-in_err-period_answer : goal.returns-in_err-period_answer
 returns-in_err-period_answer c =
@@ -44,13 +42,13 @@ returns-in_err-period_answer c =
     let b = record_of c.self.inside in
     let a = c.in_err-period_answer.ensures in
     let p = err_from_is_err_and c.from_residual.result c.from_residual.ensures.1 in
-    rw (p.1, p.2, ← c.self.view_is) (sym (effect_refused b.n b.grouping s.e s.barred s.p b.held s.words.now (λ z. refusal_number _ (a ∙ z))
+    rw (p.1, p.2, ← c.self.view_is) (sym (effect_refused b.n b.grouping s.e.entry s.barred s.p b.held s.words.now (λ z. refusal_number _ (a ∙ z))
     ∙ ap (λ (k : ℕ). record { answer = k; rounds = 0; period = s.p; held = b.held; paid = 0; words = s.words.now }) (sym a)))
 
 pub change_period-change-requires : goal.change_period-change-requires
 change_period-change-requires c =
     let r = affects c.self.view_is c.requires in
-    (r.in_book, r.grouped, r.not_open, r.fields, record { barred = _; passed = sym c.in_ok-period_answer.ensures })
+    (r.in_book, r.grouped, r.not_open, record { barred = _; passed = sym c.in_ok-period_answer.ensures })
 
 pub put_cells-requires : goal.put_cells-requires
 put_cells-requires c =
@@ -87,4 +85,4 @@ returns c =
       paid = t z;
       words = (c.put_cells.ensures ∙ ap (λ (x : period.Change). payout_words b.n x.pays s.words.now) q) z;
     })
-    ∙ sym (effect_accepted b.n b.grouping s.e s.barred s.p b.held s.words.now (sym c.in_ok-period_answer.ensures)))
+    ∙ sym (effect_accepted b.n b.grouping s.e.entry s.barred s.p b.held s.words.now (sym c.in_ok-period_answer.ensures)))

@@ -51,9 +51,6 @@ module _ {s₀ s b₀ b : Book} {e : Entry} {j : ℕ} (w : List ℕ) (same : s �
       is_affected = affected found b₀ barred r after (rw (← same) at bars) drawn (rw read at q);
     }
 
-pub is_barred-barred-requires : goal.is_barred-barred-requires
-is_barred-barred-requires c = c.requires.fields
-
 pub draw_for-requires : goal.draw_for-requires
 draw_for-requires c =
     let m = c.requires in
@@ -103,7 +100,7 @@ bounds-self-inside-j-else-is_leaving c = omega (arith, place_few c.self.view_is 
 pub invariant_of-self : goal.invariant_of-self
 invariant_of-self c =
     let k = known c.args.words.now c.self.view_is c.self.invariant c.requires c.draw_for.ensures c.self-2.view_is c.is_barred-barred.ensures (Ok c.in_ok-effect.effect) _ c.in_ok-effect.ensures in
-    let x : Input = record { entry = c.args.e; words = c.args.words.now } in
+    let x : Input = record { entry = c.args.e.entry; words = c.args.words.now } in
     let o = c.in_ok-effect.effect in
     enters_valid c.self.invariant x (Ok (record { rounds = o.rounds; paid = o.paid })) _ c.apply_to_period.new.words
     (put_back k.is_found (c.self-2.view_is ∙ k.is_drawn) o _ k.is_affected (sym c.is_leaving.ensures ∙ c.if-is_leaving.false))

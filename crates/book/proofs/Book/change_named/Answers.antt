@@ -18,7 +18,7 @@ returns-in_default c =
     let r = c.requires in
     let v = c.place.ensures.valid in
     let none = nowhere _ _ c.place.ensures.found c.in_default.not-Some in
-    refuses v c.args.e _ NotInBook (not_found v _ _ r.0 r.1 r.2 (omega (arith, count_is v, rw c.period.ensures at none)))
+    refuses v c.args.e.entry _ NotInBook (not_found v _ _ r.0 r.1 r.2 (omega (arith, count_is v, rw c.period.ensures at none)))
 
 pub change_at-requires : goal.change_at-requires
 change_at-requires c =

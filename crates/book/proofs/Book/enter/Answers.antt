@@ -1,4 +1,3 @@
-use mathlib.Core.Path.{sym, ◌∙◌}
 use borrow.Author.Tests.{lt-ltb, le-ltb, eq-eqb, ne_eqb}
 use Rattle.book.specs.declared.answers.Refusal.TheVariants.{Outside, NoParticipants, FewWords}
 use Rattle.book.proofs.records.Replies.{refuses}
@@ -11,7 +10,7 @@ pub returns-then-words-self : goal.returns-then-words-self
 returns-then-words-self c =
     rw (← c.self.view_is) (refuses c.self.invariant c.args.e _ FewWords (rw (ne_eqb _ _ c.if-self-eq0.false, lt-ltb _ _ c.if-words-self.true)))
 
-pub returns-then-not-is_allowed : goal.returns-then-not-is_allowed
-returns-then-not-is_allowed c =
+pub returns-in_default : goal.returns-in_default
+returns-in_default c =
     rw (← c.self.view_is)
-    (refuses c.self.invariant c.args.e _ Outside (rw (ne_eqb _ _ c.if-self-eq0.false, le-ltb _ _ c.if-words-self.false, sym c.is_allowed.ensures ∙ c.if-not-is_allowed.true)))
+    (refuses c.self.invariant c.args.e _ Outside (rw (ne_eqb _ _ c.if-self-eq0.false, le-ltb _ _ c.if-words-self.false, c.in_default.ensures)))

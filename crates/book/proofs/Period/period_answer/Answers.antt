@@ -20,22 +20,22 @@ within e a adds fields = rw adds.1 (amount_within e adds.0 fields)
 
 pub amount_answer-requires : goal.amount_answer-requires
 amount_answer-requires c =
-    let w = within c.args.e c.in-Some.a (adds_some c.args.e _ c.addition.ensures _ c.in-Some.is) c.requires.1 in
+    let w = within c.args.e.entry c.in-Some.a (adds_some c.args.e.entry _ c.addition.ensures _ c.in-Some.is) c.args.e.fields in
     let below = placed_side _ _ w.placed in
-    (below, total_within _ _ c.requires.0 _ below, w.cents_le)
+    (below, total_within _ _ c.requires _ below, w.cents_le)
 
 pub returns-in-Some : goal.returns-in-Some
 returns-in-Some c =
     let s = c.args in
-    let adds = adds_some s.e _ c.addition.ensures _ c.in-Some.is in
-    c.amount_answer.ensures ∙ kept_answer _ _ c.requires.0 c.is_misdated.result _ (within s.e _ adds c.requires.1)
+    let adds = adds_some s.e.entry _ c.addition.ensures _ c.in-Some.is in
+    c.amount_answer.ensures ∙ kept_answer _ _ c.requires c.is_misdated.result _ (within s.e.entry _ adds c.args.e.fields)
     ∙ ap₂ (λ t (d : Addition). refusal (amount_checks s.n s.self.now t d)) c.is_misdated.ensures adds.1
-    ∙ sym (ap refusal (amount_checks_lem s.e adds.0 s.n s.barred s.self.now))
+    ∙ sym (ap refusal (amount_checks_lem s.e.entry adds.0 s.n s.barred s.self.now))
 
 pub receipt_answer-requires : goal.receipt_answer-requires
 receipt_answer-requires c =
     let v = c.in-Receipt in
-    rw c.from.ensures (receipt_inside v.period v.participant v.cents (rw c.in-Receipt.is at c.requires.1)).0
+    rw c.from.ensures (receipt_inside v.period v.participant v.cents (rw c.in-Receipt.is at c.args.e.fields)).0
 
 pub returns-in-Notice : goal.returns-in-Notice
 returns-in-Notice c = c.notice_answer.ensures ∙ rw c.in-Notice.is
@@ -46,11 +46,11 @@ returns-in-Receipt c = c.receipt_answer.ensures ∙ rw (c.from.ensures, c.in-Rec
 pub returns-in-Settle : goal.returns-in-Settle
 returns-in-Settle c = c.settle_answer.ensures ∙ rw c.in-Settle.is
 
-pub returns-in_default-e : goal.returns-in_default-e
+pub returns-in_default-entry : goal.returns-in_default-entry
 unfolding entry_of
-returns-in_default-e c =
-    let e = c.args.e in
-    let own = c.in_default-e in
+returns-in_default-entry c =
+    let e = c.args.e.entry in
+    let own = c.in_default-entry in
     rw (
       adds_none e _ c.addition.ensures c.in_default.is,
       not_kind 4 e (λ q. own.not-Notice _ q),

@@ -16,8 +16,8 @@ use Rattle.book.proofs.blocks.run.Goals.{else-loop-lines-test, then-loop-lines-t
 pub loop-lines-init : goal.loop-lines-init
 loop-lines-init c = (begins _ _ _ _ _, refl)
 
-pub place_added_to-requires : goal.place_added_to-requires
-place_added_to-requires c = read_allowed _ _ _ (ap (λ (o : ReadOutcome). o.entry) (sym c.in-Ok.ensures))
+pub invariant_of-place_added_to : goal.invariant_of-place_added_to
+invariant_of-place_added_to c = record { fields = read_allowed _ _ _ (ap (λ (o : ReadOutcome). o.entry) (sym c.in-Ok.ensures)) }
 
 pub offset_bounds-b-inside-j : goal.offset_bounds-b-inside-j
 offset_bounds-b-inside-j c = omega (arith, place_few c.b.view_is c.b.invariant c.in-Some.ensures.0.used)
