@@ -23,7 +23,8 @@ pub struct Applied {
     pub book: Book,
 }
 
-// What an accepted entry did: the rounds of a settlement, and the cents paid.
+// What an accepted entry did: the rounds of a settlement, and the cents paid. `Entered` and `NamedAt` below are asked of callers, and
+// are in no type: they speak of this book and of the words lent to it as well as of the entry.
 #[derive(Clone, Copy, Debug, PartialEq, Eq)]
 pub struct Accepted {
     pub rounds: u64,
