@@ -29,8 +29,8 @@ impl<'a> Fields<'a> {
         bytes
     }
 
-    // A byte, a word and a long differ by width: a generic function would take a trait that names an array type for each, as no `[u8; T::WIDTH]`
-    // can be written, and three impls of what stands here.
+    // A byte, a word and a long differ by width: a generic function would take a trait that names an array type for each, as no
+    // `[u8; T::WIDTH]` can be written, and three impls of what stands here.
     pub fn byte(&mut self) -> u8
         requires { 1 ≤ length self.old.rest.now }
         ensures { (result ≡ value_at 1 self.old.rest.now 0) × (self.new.rest.now ≡ drop 1 self.old.rest.now) }
