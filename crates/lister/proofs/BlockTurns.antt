@@ -14,10 +14,11 @@ pub length_zero : (s : List ℕ) → length s ≡ 0 → s ≡ []
 length_zero [] h = refl
 length_zero (x ∷ s) h = absurd (omega arith)
 
-pub end_none : (number held : ℕ) (s : List ℕ) → length s ≡ 0 → end_line number held s ≡ []
+-- nothing is put where no bytes are left
+pub end_none : (number held : ℕ) (s out : List ℕ) → length s ≡ 0 → out ≡ out ++ end_line number held s
 unfolding end_line
-end_none number held [] h = refl
-end_none number held (x ∷ s) h = absurd (omega arith)
+end_none number held [] out h = sym (append-nil out)
+end_none number held (x ∷ s) out h = absurd (omega arith)
 
 pub end_some : (number held : ℕ) (s : List ℕ) → (length s ≡ 0 → ⊥) → end_line number held s ≡ entry_line number (reading s 0).answer 0 held
 unfolding end_line

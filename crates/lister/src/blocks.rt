@@ -1,6 +1,6 @@
 // A block of the input.
 ghost use Rattle.std.specs.Prelude.{◌≡◌, ◌≤◌, ◌++◌, length, false, if◌then◌else◌, ◌==◌};
-ghost use Rattle.book.specs.layouts.Reading.{reading};
+ghost use Rattle.book.specs.layouts.Reading.{read_number, read_outcome, reading};
 ghost use Rattle.lister.specs.Listing.{end_line};
 ghost use Rattle.lister.specs.Turns.{waiting};
 ghost use Rattle.lister.specs.inner.Blocks.{Ready, BlockListed};
@@ -8,7 +8,7 @@ ghost use Rattle.lister.specs.declared.blocks.Next.TheVariants.{Again};
 
 use crate::lines::put_line;
 use crate::runs::{Work, list_runs};
-use book::Book;
+use book::{Book, Found, ReadError};
 use text::Buffer;
 
 // The bytes of a block of output.
@@ -20,7 +20,8 @@ pub type Out = Buffer<OUT>;
 // entries and of all payouts.
 pub const WAITING: usize = 212992;
 
-// What is to be done once the output is written: list on in the block, read more of the input, or nothing.
+// What is to be done once the output is written: list on in the block, read more of the input, or nothing. An enum of its own,
+// no closure: the three cases are read in one place, the match of `list_blocks`.
 #[derive(Clone, Copy, PartialEq, Eq, Debug)]
 pub enum Next {
     Again,
@@ -51,33 +52,25 @@ impl Standing {
     }
 }
 
-// The answer of reading at the front of the bytes left: 0 where an entry stands there.
-fn answer_at_front(left: &[u8]) -> u64
-    ensures { result ≡ (reading left.now 0).answer }
-{
-    match book::read_next(left, 0) {
-        Ok(_) => 0,
-        Err(e) => e.number(),
-    }
-}
-
-// The end of a listing before the bytes left: the line of an entry that cannot be read, where there are any.
+// The end of a listing before the bytes left, where no entry was read: the line of an entry that cannot be read, where there are
+// any bytes.
 #[tactic(auto, using(crate::proofs::BlockTurns::end_none, crate::proofs::BlockTurns::end_some))]
-fn put_end(out: &mut Out, number: u64, held: u64, left: &[u8])
-    requires { length out.old ≤ waiting }
+fn put_end(out: &mut Out, number: u64, error: ReadError, held: u64, left: &[u8])
+    requires room { length out.old ≤ waiting }
+    requires read { read_number error ≡ (reading left.now 0).answer }
     ensures { out.new ≡ out.old ++ end_line number held left.now }
 {
     if left.is_empty() {
         return;
     }
-    put_line(out, number, answer_at_front(left), 0, held);
+    put_line(out, number, error.number(), 0, held);
 }
 
 // Whether more of the input is awaited: the bytes left are short, and the input has not ended.
-fn is_awaited(answer: u64, ended: bool) -> bool
-    ensures { result ≡ (if ended then false else (answer == 1)) }
+fn is_awaited(reading: &Result<Found, ReadError>, ended: bool) -> bool
+    ensures { result ≡ (if ended then false else ((read_outcome 0 reading.now).answer == 1)) }
 {
-    !ended && answer == 1
+    !ended && matches!(reading, Err(ReadError::Short))
 }
 
 // Lists a block from a place on: until output waits, the bytes left are short and more are to come, or the listing is whole.
@@ -91,13 +84,16 @@ pub fn list_block(start: Standing, feed: &[u8], ended: bool, work: &mut Work) ->
         return s;
     }
     let left = &feed[s.place..];
-    if is_awaited(answer_at_front(left), ended) {
+    let reading = book::read_next(left, 0);
+    if is_awaited(&reading, ended) {
         return Standing {
             next: Next::Read,
             ..s
         };
     }
-    put_end(&mut work.out, s.number, book::held(s.book), left);
+    if let Err(error) = reading {
+        put_end(&mut work.out, s.number, error, book::held(s.book), left);
+    }
     Standing {
         next: Next::Done,
         ..s

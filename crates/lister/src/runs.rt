@@ -33,7 +33,7 @@ fn put_lines(out: &mut Out, first: u64, lines: &[u64])
     }
 }
 
-// The cents paid by the last entry of a run; 0 where there is none.
+// The cents paid by the last entry of a run; 0 where there is none, and no Option, as the definition `last_paid` has it.
 fn last_paid(lines: &[u64]) -> u64
     requires { length lines.now % 3 ≡ 0 }
     ensures { result ≡ last_paid lines.now (length lines.now / 3) }
