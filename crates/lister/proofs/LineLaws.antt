@@ -4,6 +4,7 @@ use lib.ListN.{get_or-append}
 use lib.Seq.{drop_at, get_or-drop}
 use Rattle.std.proofs.lemmas.List.{drop-drop}
 use Rattle.exact.specs.Rows.{places}
+use Rattle.text.specs.Numbers.{spaced}
 use Rattle.exact.proofs.Cases.{le_or_lt}
 use Rattle.lister.specs.Lines.{with_space, with_newline, entry_line, pay_line, pay_lines}
 use Rattle.lister.specs.inner.Runs.{lines_to, last_paid, run_lines}
@@ -66,14 +67,20 @@ pub line_mod : (m k answer paid held : ℕ) → m % 2 ^ 64 ≡ k % 2 ^ 64 → en
 unfolding entry_line
 line_mod m k answer paid held h = rw h
 
--- the line of a payout of nothing, and of one of some cents
-pub pay_none : (participant cents : ℕ) → cents ≡ 0 → pay_line participant cents ≡ []
-unfolding pay_line
-pay_none participant cents z = rw (eq-eqb cents 0 z)
+-- the line of an entry, as it is put
+pub entry_spaced : (number answer paid held : ℕ) → number < 2 ^ 64 → spaced (number ∷ answer ∷ paid ∷ held ∷ []) 10 ≡ entry_line number answer paid held
+unfolding entry_line spaced
+entry_spaced number answer paid held h = let m : number % 2 ^ 64 ≡ number = omega arith in simp (m, append_assoc)
 
-pub pay_some : (participant cents : ℕ) → (cents ≡ 0 → ⊥) → pay_line participant cents ≡ (112 ∷ 97 ∷ 121 ∷ 32 ∷ []) ++ with_space participant ++ with_newline cents
+-- the line of a payout of nothing, and of one of some cents
+pub pay_none : (participant cents : ℕ) (out : List ℕ) → cents ≡ 0 → out ≡ out ++ pay_line participant cents
 unfolding pay_line
-pay_some participant cents h = rw (ne_eqb cents 0 h)
+pay_none participant cents out z = rw (eq-eqb cents 0 z) (sym (append-nil out))
+
+pub pay_some : (participant cents : ℕ) (out : List ℕ) → (cents ≡ 0 → ⊥)
+    → (out ++ 112 ∷ 97 ∷ 121 ∷ 32 ∷ []) ++ spaced (participant ∷ cents ∷ []) 10 ≡ out ++ pay_line participant cents
+unfolding pay_line spaced
+pay_some participant cents out h = simp (ne_eqb cents 0 h, append_assoc)
 
 -- the lines of a run whose last entry has paid nothing, and of one whose last entry has paid
 pub run_alone : (first : ℕ) (lines : List ℕ) (count : ℕ) (words : List ℕ) → last_paid lines count ≡ 0 → run_lines first lines count words ≡ lines_to first lines count

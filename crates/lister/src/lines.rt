@@ -13,10 +13,6 @@ pub const WORDS: usize = PLACES;
 
 pub type Words = [u64; WORDS];
 
-const SPACE: u8 = b' ';
-
-const NEWLINE: u8 = b'\n';
-
 // The first line.
 pub fn header() -> &'static [u8]
     ensures { result.now ≡ header }
@@ -25,19 +21,17 @@ pub fn header() -> &'static [u8]
 }
 
 // The line of an entry: its number, the answer, the cents paid by it and the cents held.
+#[tactic(auto, using(crate::proofs::LineLaws::entry_spaced))]
 pub fn put_line(out: &mut Out, number: u64, answer: u64, paid: u64, held: u64)
     requires { length out.old + line_room ≤ out_room }
     ensures puts { out.new ≡ out.old ++ entry_line number answer paid held }
     ensures upper_bound { length out.new ≤ length out.old + line_room }
 {
-    out.put_number(number, SPACE);
-    out.put_number(answer, SPACE);
-    out.put_number(paid, SPACE);
-    out.put_number(held, NEWLINE);
+    out.put_numbers(&[number, answer, paid, held], b'\n');
 }
 
 // The line of a payout, where there is one.
-#[tactic(auto, using(crate::proofs::LineLaws::pay_none))]
+#[tactic(auto, using(crate::proofs::LineLaws::pay_none, crate::proofs::LineLaws::pay_some))]
 fn put_pay(out: &mut Out, participant: u64, cents: u64)
     requires { length out.old + pay_room ≤ out_room }
     ensures puts { out.new ≡ out.old ++ pay_line participant cents }
@@ -47,8 +41,7 @@ fn put_pay(out: &mut Out, participant: u64, cents: u64)
         return;
     }
     out.put(b"pay ");
-    out.put_number(participant, SPACE);
-    out.put_number(cents, NEWLINE);
+    out.put_numbers(&[participant, cents], b'\n');
 }
 
 // The lines of all payouts.

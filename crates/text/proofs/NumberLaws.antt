@@ -1,10 +1,10 @@
 -- The digits of a number.
-use Rattle.std.proofs.Common.{◌≡◌, ℕ, zero, suc, ◌+◌, ◌*◌, ◌-◌, ◌/◌, ◌%◌, ◌^◌, ◌≤◌, ◌<◌, arith}
+use Rattle.std.proofs.Common.{◌≡◌, refl, sym, ap, ◌∙◌, ℕ, zero, suc, ◌+◌, ◌*◌, ◌-◌, ◌/◌, ◌%◌, ◌^◌, ◌≤◌, ◌<◌, List, [], ◌∷◌, ◌++◌, length, get_or, append_assoc, append-nil, arith}
 use Rattle.std.proofs.Math.Nat.{pow-suc}
 use Rattle.std.proofs.Math.Numerals.{unary_clauses}
 use Rattle.std.proofs.lemmas.Bool.{lt-ltb, le-ltb}
 use Rattle.io.specs.Digits.{last_digits, IsDigitCount, hex_digit_ascii}
-use Rattle.text.specs.Numbers.{digits_of, decimal}
+use Rattle.text.specs.Numbers.{digits_of, decimal, spaced}
 
 glyph_is : (n : ℕ) → hex_digit_ascii (n % 10) ≡ 48 + n % 10
 glyph_is n = rw (lt-ltb (n % 10) 10 (omega arith))
@@ -36,3 +36,27 @@ spelled (suc more) n (suc (suc k)) h f =
 pub decimal_is : (n k : ℕ) → n < 2 ^ 64 → IsDigitCount 10 1 n k → last_digits 10 k n ≡ decimal n
 unfolding decimal
 decimal_is n k h f = spelled 19 n k (omega arith) f
+
+-- the first numbers, a space after each
+unfoldable pub spaced_to : List ℕ → ℕ → List ℕ
+spaced_to l zero = []
+spaced_to l (suc count) = spaced_to l count ++ (decimal (get_or l count 0) ++ 32 ∷ [])
+
+spaced_more : (n : ℕ) (l : List ℕ) (count : ℕ) → spaced_to (n ∷ l) (suc count) ≡ (decimal n ++ 32 ∷ []) ++ spaced_to l count
+unfolding spaced_to
+spaced_more n l zero = sym (append-nil (decimal n ++ 32 ∷ []))
+spaced_more n l (suc count) = rw (spaced_more n l count) (append_assoc (decimal n ++ 32 ∷ []) (spaced_to l count) (decimal (get_or l count 0) ++ 32 ∷ []))
+
+pub spaced_last : (l : List ℕ) (n after : ℕ) → spaced (l ++ n ∷ []) after ≡ spaced_to l (length l) ++ (decimal n ++ after ∷ [])
+unfolding spaced spaced_to
+spaced_last [] n after = refl
+spaced_last (m ∷ []) n after = refl
+spaced_last (m ∷ k ∷ l) n after =
+    ap (λ (x : List ℕ). (decimal m ++ 32 ∷ []) ++ x) (spaced_last (k ∷ l) n after)
+    ∙ sym (append_assoc (decimal m ++ 32 ∷ []) (spaced_to (k ∷ l) (length (k ∷ l))) (decimal n ++ after ∷ []))
+    ∙ ap (λ (x : List ℕ). x ++ (decimal n ++ after ∷ [])) (sym (spaced_more m (k ∷ l) (length (k ∷ l))))
+
+pub spaced_none : (l : List ℕ) (after : ℕ) → length l ≡ 0 → spaced l after ≡ []
+unfolding spaced
+spaced_none [] after h = refl
+spaced_none (n ∷ l) after h = absurd (omega arith)

@@ -13,3 +13,9 @@ decimal n = digits_of 19 n
 -- the room that a number and a byte after it take at most
 abbrev pub number_room : ℕ
 number_room = 21
+
+-- numbers, a space between each two, and one byte after the last
+unfoldable pub spaced : List ℕ → ℕ → List ℕ
+spaced [] after = []
+spaced (n ∷ []) after = decimal n ++ after ∷ []
+spaced (n ∷ m ∷ l) after = (decimal n ++ 32 ∷ []) ++ spaced (m ∷ l) after

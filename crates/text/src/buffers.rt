@@ -6,6 +6,7 @@ use std::io::Read;
 use std::marker::Model;
 
 // At most N bytes: the first `len` of the room.
+// No Vec, which can fail to grow; no ArrayVec, which shows a reader no room behind its elements.
 #[derive(Drop)]
 pub struct Buffer<const N: usize> {
     room: [u8; N],

@@ -93,9 +93,10 @@ impl Input {
     }
 }
 
-// Hands all of the bytes over; answers whether the writer took them and flushed what it had kept back.
-fn write_all<W: Write>(to: &mut W, bytes: &[u8]) -> bool {
-    to.write_all(bytes).is_ok() && to.flush().is_ok()
+// Hands all of the bytes over, and has the writer flush what it kept back.
+fn write_all<W: Write>(to: &mut W, bytes: &[u8]) -> io::Result<()> {
+    to.write_all(bytes)?;
+    to.flush()
 }
 
 impl Output {
@@ -121,7 +122,7 @@ impl Output {
         requires { self.old.all ≡ true }
         ensures { self.new.total ≡ min (self.old.total + length bytes.now) most }
     {
-        self.all = write_all(to, bytes);
+        self.all = write_all(to, bytes).is_ok();
         self.total = counted(self.total, bytes.len());
     }
 }
