@@ -2,22 +2,14 @@
 ghost use Rattle.std.specs.Prelude.{◌+◌, ◌≤◌, ◌<◌, length};
 ghost use Rattle.trial.specs.Calls.{call_length};
 
-use crate::calls::{Call, READ_LENGTH, entry_of, fields_of, long_at};
+use crate::calls::{Call, READ_LENGTH, fields_of, long_at};
+use crate::kinds::{AMOUNT, ENERGY, NOTICE, OPEN, PURSE, RECEIPT, SETTLE, WASHUP};
 use crate::lines::{Out, put_line};
 use crate::makings::{grouped_at, limited_at, separate_at};
 use book::{Book, Entry, Found, Made, Making};
 
 // The most words, or bytes, that are lent.
 const ROOM: usize = 255;
-
-// The numbers of a line before the words that are lent, and before the bytes.
-const BEFORE_WORDS: usize = 3;
-
-const BEFORE_BYTES: usize = 2;
-
-const WORDS_LINE: usize = BEFORE_WORDS + ROOM;
-
-const BYTES_LINE: usize = BEFORE_BYTES + ROOM;
 
 // What stands in each lent word, and in each lent byte, before a call.
 const WORD: u64 = 9;
@@ -27,43 +19,46 @@ const BYTE: u8 = 238;
 // Makes the book that all later calls go to.
 fn make(m: Making, out: &mut Out) -> Book {
     let Made { answer, book } = book::new(m);
-    put_line(out, b"book ", &[book::number(answer)]);
+    put_line(out, b"book ", &[book::number(answer)], &[]);
     book
 }
 
-// Applies an entry.
+// Applies an entry: the answer, the rounds and the cents held, and each lent word as left.
 fn apply(b: Book, s: &[u8], out: &mut Out) -> Book
     requires { 34 ≤ length s.now }
 {
     let f = fields_of(s);
-    let end = BEFORE_WORDS + usize::from(f.room);
-    let mut numbers = [WORD; WORDS_LINE];
-    let r = book::apply(b, entry_of(f), &mut numbers[BEFORE_WORDS..end]);
-    numbers[0] = book::number(r.answer);
-    numbers[1] = r.rounds;
-    numbers[2] = book::held(r.book);
-    put_line(out, b"apply ", &numbers[..end]);
+    let mut words = [WORD; ROOM];
+    let lent = &mut words[..usize::from(f.room)];
+    let r = book::apply(b, f.into(), lent);
+    let answers = [book::number(r.answer), r.rounds, book::held(r.book)];
+    put_line(out, b"apply ", &answers, lent);
     r.book
 }
 
 // Puts the line of a read that found an entry: the place after it, its kind, and its fields in the layout's order.
+fn put_fields(out: &mut Out, next: usize, kind: u8, fields: &[u64])
+    requires { length fields.now ≤ 8 }
+{
+    put_line(out, b"read ", &[0, next as u64, u64::from(kind)], fields);
+}
+
+// Puts the line of a read that found an entry.
+// Over 40 lines, an arm for each of the eight kinds: each of two functions would need an arm for the kinds of the other.
 fn put_found(out: &mut Out, entry: Entry, next: usize) {
-    let next = next as u64;
     match entry {
-        Entry::Open { period } => put_line(out, b"read ", &[0, next, 1, period.into()]),
+        Entry::Open { period } => put_fields(out, next, OPEN, &[period.into()]),
         Entry::Energy {
             period,
             participant,
             side,
             quantity,
             price,
-        } => put_line(
+        } => put_fields(
             out,
-            b"read ",
+            next,
+            ENERGY,
             &[
-                0,
-                next,
-                2,
                 period.into(),
                 participant.into(),
                 side.into(),
@@ -77,13 +72,11 @@ fn put_found(out: &mut Out, entry: Entry, next: usize) {
             side,
             tier,
             cents,
-        } => put_line(
+        } => put_fields(
             out,
-            b"read ",
+            next,
+            AMOUNT,
             &[
-                0,
-                next,
-                3,
                 period.into(),
                 participant.into(),
                 side.into(),
@@ -91,19 +84,20 @@ fn put_found(out: &mut Out, entry: Entry, next: usize) {
                 cents,
             ],
         ),
-        Entry::Notice { period } => put_line(out, b"read ", &[0, next, 4, period.into()]),
+        Entry::Notice { period } => put_fields(out, next, NOTICE, &[period.into()]),
         Entry::Receipt {
             period,
             participant,
             cents,
-        } => put_line(
+        } => put_fields(
             out,
-            b"read ",
-            &[0, next, 5, period.into(), participant.into(), cents],
+            next,
+            RECEIPT,
+            &[period.into(), participant.into(), cents],
         ),
-        Entry::Settle { period } => put_line(out, b"read ", &[0, next, 6, period.into()]),
+        Entry::Settle { period } => put_fields(out, next, SETTLE, &[period.into()]),
         Entry::Purse { participant, cents } => {
-            put_line(out, b"read ", &[0, next, 7, participant.into(), cents])
+            put_fields(out, next, PURSE, &[participant.into(), cents])
         }
         Entry::Washup {
             period,
@@ -113,13 +107,11 @@ fn put_found(out: &mut Out, entry: Entry, next: usize) {
             old,
             new,
             price,
-        } => put_line(
+        } => put_fields(
             out,
-            b"read ",
+            next,
+            WASHUP,
             &[
-                0,
-                next,
-                8,
                 period.into(),
                 earlier.into(),
                 participant.into(),
@@ -140,7 +132,7 @@ fn read(s: &[u8], count: usize, out: &mut Out)
     let bytes = &s[READ_LENGTH..READ_LENGTH + count];
     match book::read_next(bytes, place) {
         Ok(Found { entry, next }) => put_found(out, entry, next),
-        Err(e) => put_line(out, b"read ", &[e.number(), place as u64]),
+        Err(e) => put_line(out, b"read ", &[e.number(), place as u64], &[]),
     }
 }
 
@@ -149,19 +141,19 @@ fn write(s: &[u8], out: &mut Out)
     requires { 34 ≤ length s.now }
 {
     let f = fields_of(s);
-    let room = usize::from(f.room);
     let mut bytes = [BYTE; ROOM];
-    let (answer, written) = match book::write_entry(entry_of(f), &mut bytes[..room]) {
+    let lent = &mut bytes[..usize::from(f.room)];
+    let (answer, written) = match book::write_entry(f.into(), lent) {
         Ok(count) => (0, count),
         Err(e) => (e.number(), 0),
     };
-    let mut numbers = [0; BYTES_LINE];
-    numbers[0] = answer;
-    numbers[1] = written as u64;
-    for (number, byte) in numbers[BEFORE_BYTES..].iter_mut().zip(&bytes) {
-        *number = u64::from(*byte);
-    }
-    put_line(out, b"write ", &numbers[..BEFORE_BYTES + room]);
+    let numbers = bytes.map(u64::from);
+    put_line(
+        out,
+        b"write ",
+        &[answer, written as u64],
+        &numbers[..usize::from(f.room)],
+    );
 }
 
 // Makes the call that stands at the start of s, and puts its line; answers the book that it leaves.

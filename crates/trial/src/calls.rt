@@ -2,13 +2,10 @@
 ghost use Rattle.std.specs.Prelude.{◌+◌, ◌≤◌, ◌≡◌, length, IfOk};
 ghost use Rattle.trial.specs.Calls.{call_length};
 
-use book::Entry;
+use crate::kinds::{OPEN, WASHUP};
 
 // The length of READ up to the bytes to be read.
 pub const READ_LENGTH: usize = 11;
-
-// The highest kind of an entry; there is no kind 0.
-const LAST_KIND: u8 = 8;
 
 // A whole call, READ with how many bytes are to be read.
 #[derive(Clone, Copy, Debug, PartialEq, Eq)]
@@ -98,56 +95,6 @@ pub fn fields_of(s: &[u8]) -> Fields
     }
 }
 
-// The entry of a kind that exists, with those of the fields that the kind has.
-pub fn entry_of(f: Fields) -> Entry {
-    let Fields {
-        period,
-        participant,
-        side,
-        tier,
-        quantity,
-        price,
-        cents,
-        earlier,
-        old,
-        ..
-    } = f;
-    match f.kind {
-        1 => Entry::Open { period },
-        2 => Entry::Energy {
-            period,
-            participant,
-            side,
-            quantity,
-            price,
-        },
-        3 => Entry::Amount {
-            period,
-            participant,
-            side,
-            tier,
-            cents,
-        },
-        4 => Entry::Notice { period },
-        5 => Entry::Receipt {
-            period,
-            participant,
-            cents,
-        },
-        6 => Entry::Settle { period },
-        7 => Entry::Purse { participant, cents },
-        _ => Entry::Washup {
-            period,
-            earlier,
-            participant,
-            side,
-            old,
-            new: quantity,
-            price,
-        },
-    }
-}
-
 // The call, where all of its bytes have come.
 fn whole(s: &[u8], call: Call) -> Result<Call, NoCall>
     ensures { IfOk result (λ c. call_length c ≤ length s.now) }
@@ -163,7 +110,7 @@ fn with_entry(s: &[u8], call: Call) -> Result<Call, NoCall>
     requires { 2 ≤ length s.now }
     ensures { IfOk result (λ c. call_length c ≤ length s.now) }
 {
-    if (1..=LAST_KIND).contains(&s[1]) {
+    if (OPEN..=WASHUP).contains(&s[1]) {
         whole(s, call)
     } else {
         Err(NoCall::Unknown)

@@ -9,22 +9,16 @@ pub const BLOCK: usize = 65536;
 
 pub type Out = Buffer<BLOCK>;
 
-const SPACE: u8 = b' ';
-
-const NEWLINE: u8 = b'\n';
-
-// The byte after a number: a line end after the last.
-fn after(passed: usize, count: usize) -> u8 {
-    if passed < count { SPACE } else { NEWLINE }
-}
-
-// Puts a name and numbers as the one line of the output.
-pub fn put_line(out: &mut Out, name: &[u8], numbers: &[u64])
-    requires { length name.now + length numbers.now * number_room ≤ 65536 }
+// Puts a name and numbers as the one line of the output: what a call answered, and then what it filled or found.
+pub fn put_line(out: &mut Out, name: &[u8], answers: &[u64], others: &[u64])
+    requires { length name.now + (length answers.now + length others.now) * number_room ≤ 65536 }
 {
     out.clear();
     out.put(name);
-    for (i, number) in numbers.iter().enumerate() {
-        out.put_number(*number, after(i + 1, numbers.len()));
+    if others.is_empty() {
+        out.put_numbers(answers, b'\n');
+    } else {
+        out.put_numbers(answers, b' ');
+        out.put_numbers(others, b'\n');
     }
 }

@@ -3,6 +3,7 @@
 
 mod calling;
 mod calls;
+mod kinds;
 mod lines;
 mod makings;
 
@@ -28,7 +29,7 @@ fn call_all<R: Read, W: Write>(
     let mut input = Input::unread();
     let mut output = Output::unwritten();
     let mut place: usize = 0;
-    // As many turns as there are numbers of 64 bits but one.
+    // As many turns as there are numbers of 64 bits but one, and not without a bound, since every loop is proved to end.
     for _turn in 0..u64::MAX {
         let s = &bytes.bytes()[place..];
         match call_at(s) {
