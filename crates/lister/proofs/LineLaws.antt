@@ -6,7 +6,7 @@ use Rattle.std.proofs.lemmas.List.{drop-drop}
 use Rattle.exact.specs.Rows.{places}
 use Rattle.text.specs.Numbers.{spaced}
 use Rattle.exact.proofs.Cases.{le_or_lt}
-use Rattle.lister.specs.Lines.{with_space, with_newline, entry_line, pay_line, pay_lines}
+use Rattle.lister.specs.Lines.{entry_line, pay_line, pay_lines}
 use Rattle.lister.specs.inner.Runs.{lines_to, last_paid, run_lines}
 
 module _ (a p h : ℕ) (lines : List ℕ) where

@@ -26,10 +26,8 @@ fn put_lines(out: &mut Out, first: u64, lines: &[u64])
     ensures puts { out.new ≡ out.old ++ lines_to first lines.now (length lines.now / 3) }
     ensures upper_bound { length out.new ≤ length out.old + length lines.now / 3 * line_room }
 {
-    let mut number = first;
-    for line in lines.chunks_exact(LINE) {
-        put_line(out, number, line[0], line[1], line[2]);
-        number = number.wrapping_add(1);
+    for (i, line) in lines.chunks_exact(LINE).enumerate() {
+        put_line(out, first.wrapping_add(i as u64), line[0], line[1], line[2]);
     }
 }
 

@@ -1,4 +1,4 @@
-use Rattle.std.proofs.Common.{length, List, ℕ, get_or, sym, ap, ◌∙◌, arith}
+use Rattle.std.proofs.Common.{length, List, ℕ, get_or, sym, ap, ◌∙◌, arith, rules}
 use Rattle.lister.specs.Listing.{book_for}
 use Rattle.lister.proofs.SessionLaws.{loop_begins, loop_turns, turned, turn_not_written, turn_done, turn_again, left_more, left_few, turn_not_read, turn_read}
 use Rattle.lister.proofs.inputs.list_blocks.Goals.{in-Again, in-Read+else-has_failed}
@@ -11,7 +11,7 @@ loop-done-init g c =
 pub returns-then-not-is_written : goal.returns-then-not-is_written
 returns-then-not-is_written g c =
     let after = turned c.loop-done.invariant c.bytes-in-loop-done.ensures c.bytes-in-loop-done-2.ensures c.has_ended.ensures c.list_block-s.ensures c.write_out.ensures in
-    rw c.new.ensures (turn_not_written after (sym c.is_written.ensures ∙ c.if-not-is_written.true))
+    rw c.new.ensures (turn_not_written after (search rules))
 
 pub read_more-requires : goal.read_more-requires
 read_more-requires g c =
@@ -22,24 +22,21 @@ read_more-requires g c =
 pub returns-then-has_failed : goal.returns-then-has_failed
 returns-then-has_failed g c =
     let after = turned c.loop-done.invariant c.bytes-in-loop-done.ensures c.bytes-in-loop-done-2.ensures c.has_ended.ensures c.list_block-s.ensures c.write_out.ensures in
-    let written = sym c.is_written.ensures ∙ c.if-not-is_written.false in
     rw c.new-then-has_failed.ensures
-    (turn_not_read after c.in-Read.is written c.drop_front.ensures c.read_more.ensures (sym c.has_failed.ensures ∙ c.if-has_failed.true))
+    (turn_not_read after c.in-Read.is (search rules) c.drop_front.ensures c.read_more.ensures (search rules))
 
 pub returns-in-Done : goal.returns-in-Done
 returns-in-Done g c =
     let after = turned c.loop-done.invariant c.bytes-in-loop-done.ensures c.bytes-in-loop-done-2.ensures c.has_ended.ensures c.list_block-s.ensures c.write_out.ensures in
-    let written = sym c.is_written.ensures ∙ c.if-not-is_written.false in
-    rw c.new-in-Done.ensures (rw c.why_ended.ensures (turn_done after c.in-Done.is written))
+    rw c.new-in-Done.ensures (rw c.why_ended.ensures (turn_done after c.in-Done.is (search rules)))
 
 pub loop-done-preserved : goal.loop-done-preserved
 loop-done-preserved g c =
     let after = turned c.loop-done.invariant c.bytes-in-loop-done.ensures c.bytes-in-loop-done-2.ensures c.has_ended.ensures c.list_block-s.ensures c.write_out.ensures in
-    let written = sym c.is_written.ensures ∙ c.if-not-is_written.false in
     elim c.match-s.branch [
-      | in-Again w ↦ rw (w.feed-is, w.s-is, w.input-is) (turn_again after w.in-Again.is written)
+      | in-Again w ↦ rw (w.feed-is, w.s-is, w.input-is) (turn_again after w.in-Again.is (search rules))
       | in-Read+else-has_failed w ↦ rw (w.feed-is, w.s-is, w.input-is)
-          (turn_read after w.in-Read.is written w.drop_front.ensures w.read_more.ensures (sym w.has_failed.ensures ∙ w.if-has_failed.false))
+          (turn_read after w.in-Read.is (search rules) w.drop_front.ensures w.read_more.ensures (search rules))
     ]
 
 pub returns : goal.returns

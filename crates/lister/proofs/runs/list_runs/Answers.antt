@@ -5,36 +5,31 @@ use Rattle.lister.proofs.runs.list_runs.Goals as goal
 pub shared_ref_as_front-put_run : goal.shared_ref_as_front-put_run
 shared_ref_as_front-put_run c =
     let l = c.loop-out in
-    let size : length l.lines ≡ 1536 = search rules in
-    few_lines _ _ _ _ l.invariant.0 l.lines size c.run-place.ensures
+    few_lines _ _ _ _ l.invariant.0 l.lines (search rules) c.run-place.ensures
 
 pub put_run-requires : goal.put_run-requires
 put_run-requires c =
     let l = c.loop-out in
     let wrote = c.run-place.result.wrote in
-    let size : length l.lines ≡ 1536 = search rules in
     let after : length c.run-place.new.lines ≡ 1536 = search rules in
-    let few = few_lines _ _ _ _ l.invariant.0 l.lines size c.run-place.ensures in
-    let three = three_lines _ _ _ _ l.invariant.0 l.lines size c.run-place.ensures in
+    let few = few_lines _ _ _ _ l.invariant.0 l.lines (search rules) c.run-place.ensures in
+    let three = three_lines _ _ _ _ l.invariant.0 l.lines (search rules) c.run-place.ensures in
     let part = length-take-le wrote c.run-place.new.lines (omega (arith, few, after)) in
     (omega (arith, c.len.ensures.count, c.loop-out-test.true), omega (arith, part, few), omega (arith, part, three))
 
 pub loop-out-smaller : goal.loop-out-smaller
 loop-out-smaller c =
     let l = c.loop-out in
-    let size : length l.lines ≡ 1536 = search rules in
-    less _ _ _ _ l.invariant.0 l.lines size c.run-place.ensures c.if-wrote-eq0.false
+    less _ _ _ _ l.invariant.0 l.lines (search rules) c.run-place.ensures c.if-wrote-eq0.false
 
 pub loop-out-preserved : goal.loop-out-preserved
 loop-out-preserved c =
     let l = c.loop-out in
-    let size : length l.lines ≡ 1536 = search rules in
-    (goes _ _ _ _ l.invariant.0 l.lines size c.run-place.ensures c.if-wrote-eq0.false refl c.put_run.ensures, l.invariant.1)
+    (goes _ _ _ _ l.invariant.0 l.lines (search rules) c.run-place.ensures c.if-wrote-eq0.false refl c.put_run.ensures, l.invariant.1)
 
 pub returns-then-wrote-eq0 : goal.returns-then-wrote-eq0
 returns-then-wrote-eq0 c =
     let l = c.loop-out in
-    let size : length l.lines ≡ 1536 = search rules in
     returned _ _ l.invariant.1
-    (stays _ _ _ _ l.invariant.0 l.lines size c.run-place.ensures c.if-wrote-eq0.true)
-    (λ _. ends _ _ _ _ l.invariant.0 l.lines size c.run-place.ensures c.if-wrote-eq0.true)
+    (stays _ _ _ _ l.invariant.0 l.lines (search rules) c.run-place.ensures c.if-wrote-eq0.true)
+    (λ _. ends _ _ _ _ l.invariant.0 l.lines (search rules) c.run-place.ensures c.if-wrote-eq0.true)
