@@ -22,10 +22,6 @@ pub both_true : (a b : Bool) → cond a b false ≡ true → (a ≡ true) × (b 
 both_true true b h = (refl, h)
 both_true false b h = absurd (true≢false (sym h))
 
-untrue : (t : Bool) → (t ≡ true → ⊥) → t ≡ false
-untrue true h = absurd (h refl)
-untrue false h = refl
-
 module _ (f g : ℕ → ℕ) where
   pub each_reads : (n : ℕ) → each_at_most f g n ≡ true → (i : ℕ) → i < n → f i ≤ g i
   unfolding each_at_most

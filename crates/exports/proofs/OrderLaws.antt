@@ -9,10 +9,12 @@ use lib.ListN.{length}
 use lib.Dec.{leb, eqb}
 use borrow.Author.Tests.{leb-true, le-leb, lt-leb, eqb-true, eq-eqb, ne_eqb}
 use Rattle.std.specs.Prelude.{Some, None}
+use Rattle.std.specs.Bool.{then_some}
 use Rattle.exact.specs.Rows.{places, at, sum}
 use Rattle.exact.proofs.Cases.{le_or_lt, eq_or_ne}
 use Rattle.settlement.specs.Month.{tiers, side_limit, Bounded}
 use Rattle.exports.specs.Slices.{tier_places, front, row_of, owing_of, month_of}
+use Rattle.exports.specs.Answers.{notice_of}
 use Rattle.exports.specs.Orders.{TiersSound, Sound, GroupsSound, all_of, owing_in_order, groups_in_order, in_order, received_in_order, late_money_in_order}
 use Rattle.exports.proofs.SliceLaws.{front_sum, flat_sum}
 use Rattle.exports.proofs.EachLaws.{both_true}
@@ -63,16 +65,31 @@ fitting n by to groups reserves room h =
       roomy = t.roomy;
     }
 
-pub received_fitting : (n : ℕ) (by to groups reserves received : List ℕ) (room : ℕ)
-    → received_in_order n by to groups reserves received room ≡ true
-    → Fitting (Sound n by to × GroupsSound n groups reserves) (min (length received) room)
-unfolding received_in_order
-received_fitting n by to groups reserves received room h = fitting n by to groups reserves _ (all_first _ _ h).0
+-- a value that is handed on where the last test is passed
+pub then_tested : {A : Type 0} (t : Bool) (x : A) → then_some t x ≡ cond (cond t true false) (Some x) None
+then_tested true x = refl
+then_tested false x = refl
 
--- what is handed on where a test is passed
-pub some_passed : {A : Type 0} {t : Bool} {x y : A} → Some x ≡ cond t (Some y) None → (t ≡ true) × (x ≡ y)
+-- what is known where a payable row is handed on: it is the notice's, and the arguments are in order
+pub record Settling (n : ℕ) (by to groups reserves received : List ℕ) (room : ℕ) (row : List ℕ) : Type 0 where
+  pub passed : received_in_order n by to groups reserves received room ≡ true
+  pub is : row ≡ (notice_of n by to groups reserves).payable
+  pub sound : Sound n by to
+  pub long : places ≤ length received
+  pub roomy : places ≤ room
+
+some_passed : {A : Type 0} {t : Bool} {x y : A} → Some x ≡ cond t (Some y) None → (t ≡ true) × (x ≡ y)
 some_passed {t = true} e = (refl, cc)
 some_passed {t = false} e = absurd cc
+
+pub settling : {n : ℕ} {by to groups reserves received : List ℕ} {room : ℕ} {row : List ℕ}
+    → Some row ≡ cond (received_in_order n by to groups reserves received room) (Some (notice_of n by to groups reserves).payable) None
+    → Settling n by to groups reserves received room row
+unfolding received_in_order
+settling {n} {by} {to} {groups} {reserves} {received} {room} e =
+    let h = some_passed e in
+    let k = fitting n by to groups reserves _ (all_first _ _ h.0).0 in
+    record { passed = h.0; is = h.1; sound = k.sound.0; long = omega (arith, k.roomy); roomy = omega (arith, k.roomy) }
 
 pub late_fitting : (n : ℕ) (to claims paid : List ℕ) (money room : ℕ) → late_money_in_order n to claims paid money room ≡ true
     → Fitting (TiersSound n to) (min (length claims) (min (length paid) room))

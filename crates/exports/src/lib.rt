@@ -15,15 +15,15 @@ ghost use Rattle.exports.specs.Slices.{front, row_of, tier_places, left};
 ghost use Rattle.exports.specs.Orders.{in_order, settlement_in_order, late_money_in_order};
 ghost use Rattle.exports.specs.Answers.{notice_of, scaled_of, settled_of, refused, no_quotient};
 
-use exact::proportion;
-use months::{late_of, notice_of, scaled_of, settled_of};
-use orders::{in_order, late_money_in_order, payable_of, proportional};
-use slices::put_row;
+use exact::{PLACES, proportion, put_cells};
+use months::{LentMonth, late_of};
+use orders::{late_money_in_order, proportional};
+use slices::front;
 
-// More rounds than any settlement runs: the answer to arguments that are not in order.
+// More rounds than any settlement runs: the answer to arguments that are not in order. A number and no Option, since C callers have it.
 const REFUSED: u64 = 65;
 
-// More than any quotient: the answer of a proportion to arguments that are not in order.
+// More than any quotient: the answer of a proportion to arguments that are not in order. A number and no Option, since C callers have it.
 const NO_QUOTIENT: u64 = 0xFFFF_FFFF_FFFF_FFFF;
 
 // amount × part / whole rounded down, or 2^64 − 1 where the arguments are not in order.
@@ -54,12 +54,19 @@ pub extern "C" fn clearing_notice(
     ensures payable_after { payable.new ≡ left result (notice_of n by.now to.now groups.now reserves.now).payable payable.old }
 {
     let room = retention.len().min(payable.len());
-    if !in_order(by, to, groups, reserves, n, room) {
+    let lent = LentMonth {
+        by,
+        to,
+        groups,
+        reserves,
+        n,
+    };
+    if !lent.in_order(room) {
         return false;
     }
-    let noticed = notice_of(by, to, groups, reserves, n);
-    put_row(retention, noticed.retention);
-    put_row(payable, noticed.payable);
+    let noticed = lent.notice();
+    put_cells(retention, PLACES, noticed.retention);
+    put_cells(payable, PLACES, noticed.payable);
     true
 }
 
@@ -83,13 +90,20 @@ pub extern "C" fn clearing_scaled(
     ensures below_after { below.new ≡ left result (scaled_of n by.now to.now groups.now reserves.now received.now).below below.old }
 {
     let room = revised.len().min(above.len().min(below.len()));
-    let Some(payable) = payable_of(by, to, groups, reserves, received, n, room) else {
+    let lent = LentMonth {
+        by,
+        to,
+        groups,
+        reserves,
+        n,
+    };
+    let Some(payable) = lent.payable(received, room) else {
         return false;
     };
-    let scaled = scaled_of(by, to, payable, received, n);
-    put_row(revised, scaled.revised);
-    put_row(above, scaled.above);
-    put_row(below, scaled.below);
+    let scaled = lent.sums().scale(payable, front(received));
+    put_cells(revised, PLACES, scaled.revised);
+    put_cells(above, PLACES, scaled.above);
+    put_cells(below, PLACES, scaled.below);
     true
 }
 
@@ -113,13 +127,20 @@ pub extern "C" fn clearing_settle(
     ensures arrears_after { arrears.new ≡ left (leb result places) (settled_of n by.now to.now groups.now reserves.now received.now).arrears arrears.old }
 {
     let room = paid.len().min(claims.len().min(arrears.len()));
-    let Some(payable) = payable_of(by, to, groups, reserves, received, n, room) else {
+    let lent = LentMonth {
+        by,
+        to,
+        groups,
+        reserves,
+        n,
+    };
+    let Some(payable) = lent.payable(received, room) else {
         return REFUSED;
     };
-    let settled = settled_of(by, to, payable, received, n);
-    put_row(paid, settled.paid);
-    put_row(claims, settled.claims);
-    put_row(arrears, settled.arrears);
+    let settled = lent.sums().settle(payable, front(received));
+    put_cells(paid, PLACES, settled.paid);
+    put_cells(claims, PLACES, settled.claims);
+    put_cells(arrears, PLACES, settled.arrears);
     settled.rounds
 }
 
@@ -140,6 +161,6 @@ pub extern "C" fn clearing_late(
     if !late_money_in_order(to, claims, paid, money, n, pays.len()) {
         return false;
     }
-    put_row(pays, late_of(to, claims, paid, money, n));
+    put_cells(pays, PLACES, late_of(to, claims, paid, money, n));
     true
 }

@@ -1,53 +1,58 @@
-// What settlement reckons of the month in slices.
+// The month in slices that a caller lends, and what settlement reckons of it.
 ghost use Rattle.std.specs.Prelude.{◌≡◌, ◌≤◌, length};
 ghost use Rattle.exact.specs.Rows.{places, cells};
+ghost use Rattle.settlement.specs.Groups.{group_count};
 ghost use Rattle.settlement.specs.Month.{tier_at};
-ghost use Rattle.settlement.specs.Notice.{Due};
-ghost use Rattle.settlement.specs.Settling.{scaled_amounts, settled};
 ghost use Rattle.settlement.specs.Late.{late_payment};
-ghost use Rattle.exports.specs.Slices.{front, row_of, tier_places, month_of};
+ghost use Rattle.exports.specs.Slices.{front, row_of, tier_places, grouping_of};
 ghost use Rattle.exports.specs.Orders.{Sound, TiersSound, GroupsSound};
 ghost use Rattle.exports.specs.Answers.{notice_of};
 
-use crate::slices::{front, grouping_of};
+use crate::slices::front;
 use exact::Row;
-use settlement::{MonthSums, Noticed, Scaled, Settled, late_payments};
+use settlement::{Grouping, MonthSums, Noticed, late_payments};
 
-// The month's sums.
-fn month_of(by: &[u64], to: &[u64], n: usize) -> MonthSums
-    requires { Sound n by.now to.now }
-    ensures { result ≡ record { n = n; by = front places by.now; to = front tier_places to.now } }
-{
-    let by = front(by);
-    let to = front(to);
-    MonthSums { n, by, to }
+// The cents owing by n participants and those owing to them by tiers, their groups, and the groups' reserves.
+#[derive(Clone, Copy)]
+pub struct LentMonth<'a> {
+    pub by: &'a [u64],
+    pub to: &'a [u64],
+    pub groups: &'a [u64],
+    pub reserves: &'a [u64],
+    pub n: usize,
 }
 
-// The notice of the month and the groups.
-pub fn notice_of(by: &[u64], to: &[u64], groups: &[u64], reserves: &[u64], n: usize) -> Noticed
-    requires { Sound n by.now to.now × GroupsSound n groups.now reserves.now }
-    ensures { result ≡ notice_of n by.now to.now groups.now reserves.now }
-{
-    let month = month_of(by, to, n);
-    month.notice(grouping_of(groups, reserves))
-}
+impl<'a> LentMonth<'a> {
+    // The month's sums.
+    pub fn sums(&self) -> MonthSums
+        requires { Sound self.now.n self.now.by.now self.now.to.now }
+        ensures { result ≡ record { n = self.now.n; by = front places self.now.by.now; to = front tier_places self.now.to.now } }
+    {
+        MonthSums {
+            n: self.n,
+            by: front(self.by),
+            to: front(self.to),
+        }
+    }
 
-// Steps 1 to 3 of the month's settlement, from what is payable.
-pub fn scaled_of(by: &[u64], to: &[u64], payable: Row, received: &[u64], n: usize) -> Scaled
-    requires { Sound n by.now to.now × (places ≤ length received.now) × Due (month_of n by.now to.now) payable }
-    ensures { (due : Due (month_of n by.now to.now) payable) → result ≡ scaled_amounts (month_of n by.now to.now) due.retained (row_of received.now) }
-{
-    let month = month_of(by, to, n);
-    month.scale(payable, front(received))
-}
+    // The group number of each participant and the reserve of each group.
+    pub fn grouping(&self) -> Grouping
+        requires { (places ≤ length self.now.groups.now) × (group_count ≤ length self.now.reserves.now) }
+        ensures { result ≡ grouping_of self.now.groups.now self.now.reserves.now }
+    {
+        Grouping {
+            groups: front(self.groups),
+            reserves: front(self.reserves),
+        }
+    }
 
-// The whole of it, from the same.
-pub fn settled_of(by: &[u64], to: &[u64], payable: Row, received: &[u64], n: usize) -> Settled
-    requires { Sound n by.now to.now × (places ≤ length received.now) × Due (month_of n by.now to.now) payable }
-    ensures { (due : Due (month_of n by.now to.now) payable) → result ≡ settled (month_of n by.now to.now) due.retained (row_of received.now) }
-{
-    let month = month_of(by, to, n);
-    month.settle(payable, front(received))
+    // The notice of the month and the groups.
+    pub fn notice(&self) -> Noticed
+        requires { Sound self.now.n self.now.by.now self.now.to.now × GroupsSound self.now.n self.now.groups.now self.now.reserves.now }
+        ensures { result ≡ notice_of self.now.n self.now.by.now self.now.to.now self.now.groups.now self.now.reserves.now }
+    {
+        self.sums().notice(self.grouping())
+    }
 }
 
 // What money that comes late pays.

@@ -6,13 +6,13 @@ ghost use Rattle.exact.specs.Rows.{places, at};
 ghost use Rattle.exports.specs.Orders.{owing_in_order, groups_in_order, in_order, received_in_order, late_money_in_order};
 ghost use Rattle.exports.specs.Answers.{notice_of};
 
-use crate::months::notice_of;
-use crate::slices::{front, grouping_of, side_total};
+use crate::months::LentMonth;
+use crate::slices::{front, side_total};
 use exact::{PLACES, Row, excesses, total};
 use settlement::{GROUPS, SIDE_LIMIT, TIERS, is_grouping_allowed, over_tiers};
 
 // Whether n participants and the cents owing to them by tiers are in order, and the shortest slice of a row has room.
-pub fn owing_in_order(to: &[u64], n: usize, room: usize) -> bool
+fn owing_in_order(to: &[u64], n: usize, room: usize) -> bool
     ensures { result ≡ owing_in_order n to.now room }
 {
     if room < PLACES || n < 1 || PLACES < n || to.len() < TIERS * PLACES {
@@ -21,67 +21,50 @@ pub fn owing_in_order(to: &[u64], n: usize, room: usize) -> bool
     side_total(to, TIERS * n) <= SIDE_LIMIT
 }
 
-// Whether the group numbers of n participants and the reserves of all groups are in order.
-pub fn groups_in_order(groups: &[u64], reserves: &[u64], n: usize) -> bool
-    requires { n ≤ places }
-    ensures { result ≡ groups_in_order n groups.now reserves.now }
-{
-    if groups.len() < PLACES || reserves.len() < GROUPS {
-        return false;
-    }
-    is_grouping_allowed(grouping_of(groups, reserves), n)
-}
-
-// Whether the month is in order: the cents owing to n participants, those owing by them, which must come to as much, and
-// the groups.
-pub fn in_order(
-    by: &[u64],
-    to: &[u64],
-    groups: &[u64],
-    reserves: &[u64],
-    n: usize,
-    room: usize,
-) -> bool
-    ensures { result ≡ in_order n by.now to.now groups.now reserves.now room }
-{
-    if !owing_in_order(to, n, room)
-        || by.len() < PLACES
-        || side_total(by, n) != side_total(to, TIERS * n)
-    {
-        return false;
-    }
-    groups_in_order(groups, reserves, n)
-}
-
 // Whether each of the first n cells is at most the other row's.
-pub fn each_at_most(a: Row, b: Row, n: usize) -> bool
+fn each_at_most(a: Row, b: Row, n: usize) -> bool
     requires { n ≤ places }
     ensures { result ≡ list_all (λ p. leb p.0 p.1) (zip (take n a) (take n b)) }
 {
     a[..n].iter().zip(b[..n].iter()).all(|(x, y)| *x <= *y)
 }
 
-// The payable row of the month's notice, where the sums of the month, the groups and what was received are in order: the
-// settlement is handed that row, so that no notice is reckoned twice.
-pub fn payable_of(
-    by: &[u64],
-    to: &[u64],
-    groups: &[u64],
-    reserves: &[u64],
-    received: &[u64],
-    n: usize,
-    room: usize,
-) -> Option<Row>
-    ensures { result ≡ cond (received_in_order n by.now to.now groups.now reserves.now received.now room) (Some (notice_of n by.now to.now groups.now reserves.now).payable) None }
-{
-    if !in_order(by, to, groups, reserves, n, received.len().min(room)) {
-        return None;
+impl<'a> LentMonth<'a> {
+    // Whether the group numbers of the participants and the reserves of all groups are in order.
+    fn groups_in_order(&self) -> bool
+        requires { self.now.n ≤ places }
+        ensures { result ≡ groups_in_order self.now.n self.now.groups.now self.now.reserves.now }
+    {
+        if self.groups.len() < PLACES || self.reserves.len() < GROUPS {
+            return false;
+        }
+        is_grouping_allowed(self.grouping(), self.n)
     }
-    let payable = notice_of(by, to, groups, reserves, n).payable;
-    if each_at_most(front(received), payable, n) {
-        Some(payable)
-    } else {
-        None
+
+    // Whether the month is in order: the cents owing to n participants, those owing by them, which must come to as much, and
+    // the groups.
+    pub fn in_order(&self, room: usize) -> bool
+        ensures { result ≡ in_order self.now.n self.now.by.now self.now.to.now self.now.groups.now self.now.reserves.now room }
+    {
+        if !owing_in_order(self.to, self.n, room)
+            || self.by.len() < PLACES
+            || side_total(self.by, self.n) != side_total(self.to, TIERS * self.n)
+        {
+            return false;
+        }
+        self.groups_in_order()
+    }
+
+    // The payable row of the month's notice, where the sums of the month, the groups and what was received are in order: the
+    // settlement is handed that row, so that no notice is reckoned twice.
+    pub fn payable(&self, received: &[u64], room: usize) -> Option<Row>
+        ensures { result ≡ cond (received_in_order self.now.n self.now.by.now self.now.to.now self.now.groups.now self.now.reserves.now received.now room) (Some (notice_of self.now.n self.now.by.now self.now.to.now self.now.groups.now self.now.reserves.now).payable) None }
+    {
+        if !self.in_order(received.len().min(room)) {
+            return None;
+        }
+        let payable = self.notice().payable;
+        each_at_most(front(received), payable, self.n).then_some(payable)
     }
 }
 

@@ -1,6 +1,6 @@
 use mathlib.Core.Path.{refl, sym, ◌∙◌}
 use native.Mathlib.Omega.{arith}
-use Rattle.exports.specs.Slices.{left}
+use Rattle.exports.specs.Slices.{left, written}
 use Rattle.exports.proofs.OrderLaws.{fitting}
 use Rattle.exports.proofs.clearing_notice.Goals as goal
 
@@ -13,23 +13,23 @@ returns-then-not-in_order c = record {
 }
 
 -- the arguments are in order where the test is passed
-pub notice_of-noticed-requires : goal.notice_of-noticed-requires
-notice_of-noticed-requires c = (fitting _ _ _ _ _ _ (sym c.in_order.ensures ∙ c.if-not-in_order.false)).sound
+pub notice-noticed-requires : goal.notice-noticed-requires
+notice-noticed-requires c = (fitting _ _ _ _ _ _ (sym c.in_order.ensures ∙ c.if-not-in_order.false)).sound
 
-pub put_row-requires : goal.put_row-requires
-put_row-requires c =
+pub put_cells-requires : goal.put_cells-requires
+put_cells-requires c =
     let k = fitting _ _ _ _ _ _ (sym c.in_order.ensures ∙ c.if-not-in_order.false) in
-    omega (arith, k.roomy, c.min-room.ensures)
+    (omega arith, omega (arith, k.roomy, c.min-room.ensures))
 
-pub put_row-requires-2 : goal.put_row-requires-2
-put_row-requires-2 c =
+pub put_cells-requires-2 : goal.put_cells-requires-2
+put_cells-requires-2 c =
     let k = fitting _ _ _ _ _ _ (sym c.in_order.ensures ∙ c.if-not-in_order.false) in
-    omega (arith, k.roomy, c.min-room.ensures)
+    (omega arith, omega (arith, k.roomy, c.min-room.ensures))
 
 pub returns : goal.returns
-unfolding left
+unfolding left written
 returns c = record {
   answer = sym c.if-not-in_order.false ∙ (rw c.min-room.ensures at c.in_order.ensures);
-  retention_after = c.put_row.ensures ∙ rw c.notice_of-noticed.ensures refl;
-  payable_after = c.put_row-2.ensures ∙ rw c.notice_of-noticed.ensures refl;
+  retention_after = c.put_cells.ensures ∙ rw c.notice-noticed.ensures refl;
+  payable_after = c.put_cells-2.ensures ∙ rw c.notice-noticed.ensures refl;
 }

@@ -9,8 +9,8 @@ use Rattle.settlement.specs.Month.{tiers, side_limit}
 use Rattle.exports.specs.Slices.{row_of, owing_of}
 use Rattle.exports.specs.Orders.{TiersSound, all_of, in_order}
 use Rattle.exports.proofs.OrderLaws.{tiers_fitting, totals_tested, last_test}
-use Rattle.exports.proofs.orders.in_order.Goals as goal
-use Rattle.exports.proofs.orders.in_order.Goals.{then-not-owing_in_order-via-then-not-owing_in_order, then-not-owing_in_order-via-else-not-owing_in_order+then-by-lt-PLACES, then-not-owing_in_order-via-else-not-owing_in_order+else-by-lt-PLACES+then-side_total}
+use Rattle.exports.proofs.months.LentMonth.in_order.Goals as goal
+use Rattle.exports.proofs.months.LentMonth.in_order.Goals.{then-not-owing_in_order-via-then-not-owing_in_order, then-not-owing_in_order-via-else-not-owing_in_order+then-self-lt-PLACES, then-not-owing_in_order-via-else-not-owing_in_order+else-self-lt-PLACES+then-side_total}
 
 -- the third test is of the two sides' totals
 totals : (n : ℕ) (by to : List ℕ) (by_total to_total : ℕ) → TiersSound n to → by_total ≡ min (sum (at by) n) (side_limit + 1)
@@ -20,15 +20,15 @@ totals n by to by_total to_total s b t = rw (b, t) (totals_tested n by to s)
 pub side_total-requires : goal.side_total-requires
 side_total-requires c =
     let known = tiers_fitting _ _ _ (sym c.owing_in_order.ensures ∙ c.if-not-owing_in_order.false) in
-    omega (arith, known.sound.few, c.if-by-lt-PLACES.false)
+    omega (arith, known.sound.few, c.if-self-lt-PLACES.false)
 
-pub overflow_mul-n : goal.overflow_mul-n
-overflow_mul-n c =
+pub overflow_mul-self : goal.overflow_mul-self
+overflow_mul-self c =
     let known = tiers_fitting _ _ _ (sym c.owing_in_order.ensures ∙ c.if-not-owing_in_order.false) in
     omega (arith, known.sound.few)
 
-pub side_total-requires-else-by-lt-PLACES : goal.side_total-requires-else-by-lt-PLACES
-side_total-requires-else-by-lt-PLACES c =
+pub side_total-requires-else-self-lt-PLACES : goal.side_total-requires-else-self-lt-PLACES
+side_total-requires-else-self-lt-PLACES c =
     let known = tiers_fitting _ _ _ (sym c.owing_in_order.ensures ∙ c.if-not-owing_in_order.false) in
     omega (arith, known.sound.few, known.sound.long)
 
@@ -37,11 +37,11 @@ unfolding all_of in_order
 returns-then-not-owing_in_order c =
     elim c.then-not-owing_in_order.branch [
       | then-not-owing_in_order-via-then-not-owing_in_order w ↦ simp (sym c.owing_in_order.ensures ∙ w.if-not-owing_in_order.true)
-      | then-not-owing_in_order-via-else-not-owing_in_order+then-by-lt-PLACES w ↦ simp (sym c.owing_in_order.ensures ∙ w.if-not-owing_in_order.false, lt-leb _ _ w.if-by-lt-PLACES.true)
-      | then-not-owing_in_order-via-else-not-owing_in_order+else-by-lt-PLACES+then-side_total w ↦
+      | then-not-owing_in_order-via-else-not-owing_in_order+then-self-lt-PLACES w ↦ simp (sym c.owing_in_order.ensures ∙ w.if-not-owing_in_order.false, lt-leb _ _ w.if-self-lt-PLACES.true)
+      | then-not-owing_in_order-via-else-not-owing_in_order+else-self-lt-PLACES+then-side_total w ↦
           let passed = sym c.owing_in_order.ensures ∙ w.if-not-owing_in_order.false in
-          let third = totals _ _ _ _ _ (tiers_fitting _ _ _ passed).sound w.side_total.ensures w.side_total-else-by-lt-PLACES.ensures in
-          simp (passed, le-leb _ _ w.if-by-lt-PLACES.false, sym third ∙ ne_eqb _ _ w.if-side_total.true)
+          let third = totals _ _ _ _ _ (tiers_fitting _ _ _ passed).sound w.side_total.ensures w.side_total-else-self-lt-PLACES.ensures in
+          simp (passed, le-leb _ _ w.if-self-lt-PLACES.false, sym third ∙ ne_eqb _ _ w.if-side_total.true)
     ]
 
 pub groups_in_order-requires : goal.groups_in_order-requires
@@ -51,6 +51,6 @@ pub returns : goal.returns
 unfolding all_of in_order
 returns c =
     let passed = sym c.owing_in_order.ensures ∙ c.if-not-owing_in_order.false in
-    let third = totals _ _ _ _ _ (tiers_fitting _ _ _ passed).sound c.side_total.ensures c.side_total-else-by-lt-PLACES.ensures in
-    simp (passed, le-leb _ _ c.if-by-lt-PLACES.false, sym third ∙ eq-eqb _ _ c.if-side_total.false)
+    let third = totals _ _ _ _ _ (tiers_fitting _ _ _ passed).sound c.side_total.ensures c.side_total-else-self-lt-PLACES.ensures in
+    simp (passed, le-leb _ _ c.if-self-lt-PLACES.false, sym third ∙ eq-eqb _ _ c.if-side_total.false)
     (c.groups_in_order.ensures ∙ last_test _)

@@ -1,4 +1,0 @@
-use Rattle.exports.proofs.months.settled_of.Goals as goal
-
-pub returns : goal.returns
-returns c = rw (c.month_of-month.ensures, c.front.ensures) at c.settle.ensures
