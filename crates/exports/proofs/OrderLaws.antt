@@ -44,6 +44,16 @@ tiers_fitting n to room h =
       roomy = leb-true _ _ a.0;
     }
 
+-- the same of a test's answer, as calls give it
+pub owing_few : (n : ℕ) (to : List ℕ) (room : ℕ) {b : Bool} → b ≡ owing_in_order n to room → b ≡ true → n ≤ places
+owing_few n to room e h = (tiers_fitting n to room (sym e ∙ h)).sound.few
+
+pub owing_long : (n : ℕ) (to : List ℕ) (room : ℕ) {b : Bool} → b ≡ owing_in_order n to room → b ≡ true → tier_places ≤ length to
+owing_long n to room e h = (tiers_fitting n to room (sym e ∙ h)).sound.long
+
+pub owing_roomy : (n : ℕ) (to : List ℕ) (room : ℕ) {b : Bool} → b ≡ owing_in_order n to room → b ≡ true → places ≤ room
+owing_roomy n to room e h = (tiers_fitting n to room (sym e ∙ h)).roomy
+
 groups_sound : (n : ℕ) (groups reserves : List ℕ) → groups_in_order n groups reserves ≡ true → GroupsSound n groups reserves
 unfolding groups_in_order
 groups_sound n groups reserves h =
@@ -64,6 +74,10 @@ fitting n by to groups reserves room h =
       sound = (record { to_side = t.sound; long = leb-true _ _ b.0; total = omega (arith, e, t.sound.total) }, groups_sound n groups reserves (all_first _ _ d.1).0);
       roomy = t.roomy;
     }
+
+-- there is room where the tests are passed, as calls give it
+pub order_roomy : (n : ℕ) (by to groups reserves : List ℕ) (room : ℕ) {b : Bool} → b ≡ in_order n by to groups reserves room → b ≡ true → places ≤ room
+order_roomy n by to groups reserves room e h = (fitting n by to groups reserves room (sym e ∙ h)).roomy
 
 -- a value that is handed on where the last test is passed
 pub then_tested : {A : Type 0} (t : Bool) (x : A) → then_some t x ≡ cond (cond t true false) (Some x) None

@@ -39,6 +39,7 @@ pub extern "C" fn clearing_proportion(amount: u64, part: u64, whole: u64) -> u64
 }
 
 // Writes the retention and payable amounts of a month, and says whether the arguments were in order. If not, nothing is written.
+#[tactic(auto, using(crate::proofs::OrderLaws::order_roomy))]
 #[unsafe(no_mangle)]
 pub extern "C" fn clearing_notice(
     by: &[u64],

@@ -43,6 +43,7 @@ impl<'a> LentMonth<'a> {
 
     // Whether the month is in order: the cents owing to n participants, those owing by them, which must come to as much, and
     // the groups.
+    #[tactic(auto, using(crate::proofs::OrderLaws::owing_few, crate::proofs::OrderLaws::owing_long))]
     pub fn in_order(&self, room: usize) -> bool
         ensures { result ≡ in_order self.now.n self.now.by.now self.now.to.now self.now.groups.now self.now.reserves.now room }
     {
@@ -69,6 +70,7 @@ impl<'a> LentMonth<'a> {
 }
 
 // Whether the claims, what was paid of them and the money that comes late are in order.
+#[tactic(auto, using(crate::proofs::OrderLaws::owing_few, crate::proofs::OrderLaws::owing_long, crate::proofs::OrderLaws::owing_roomy))]
 pub fn late_money_in_order(
     to: &[u64],
     claims: &[u64],

@@ -1,5 +1,4 @@
 use mathlib.Core.Path.{refl, sym, ◌∙◌}
-use native.Mathlib.Omega.{arith}
 use Rattle.exports.specs.Slices.{left, written}
 use Rattle.exports.proofs.OrderLaws.{fitting}
 use Rattle.exports.proofs.clearing_notice.Goals as goal
@@ -15,16 +14,6 @@ returns-then-not-in_order c = record {
 -- the arguments are in order where the test is passed
 pub notice-noticed-requires : goal.notice-noticed-requires
 notice-noticed-requires c = (fitting _ _ _ _ _ _ (sym c.in_order.ensures ∙ c.if-not-in_order.false)).sound
-
-pub put_cells-requires : goal.put_cells-requires
-put_cells-requires c =
-    let k = fitting _ _ _ _ _ _ (sym c.in_order.ensures ∙ c.if-not-in_order.false) in
-    (omega arith, omega (arith, k.roomy, c.min-room.ensures))
-
-pub put_cells-requires-2 : goal.put_cells-requires-2
-put_cells-requires-2 c =
-    let k = fitting _ _ _ _ _ _ (sym c.in_order.ensures ∙ c.if-not-in_order.false) in
-    (omega arith, omega (arith, k.roomy, c.min-room.ensures))
 
 pub returns : goal.returns
 unfolding left written

@@ -38,30 +38,11 @@ returns-then-not-owing_in_order c =
     let first = tiers_tested a.n a.to.now a.claims.now a.paid.now a.room c.owing_in_order.ensures c.min-2.ensures c.min.ensures in
     simp (sym first ∙ c.if-not-owing_in_order.true)
 
-pub front-requires : goal.front-requires
-front-requires c = omega (arith, (tiers_fitting _ _ _ (sym c.owing_in_order.ensures ∙ c.if-not-owing_in_order.false)).sound.long)
-
 pub over_tiers-owing-requires : goal.over_tiers-owing-requires
 over_tiers-owing-requires c =
     let a = c.args in
     let k = (tiers_fitting _ _ _ (sym c.owing_in_order.ensures ∙ c.if-not-owing_in_order.false)).sound in
     (k.few, λ i h. rw c.front.ensures (omega (arith, k.total, sum_term (owing_of a.to.now) a.n i h)))
-
-pub front-claims-requires : goal.front-claims-requires
-front-claims-requires c =
-    let k = tiers_fitting _ _ _ (sym c.owing_in_order.ensures ∙ c.if-not-owing_in_order.false) in
-    omega (arith, k.roomy, c.min-2.ensures)
-
-pub front-paid-requires : goal.front-paid-requires
-front-paid-requires c =
-    let k = tiers_fitting _ _ _ (sym c.owing_in_order.ensures ∙ c.if-not-owing_in_order.false) in
-    omega (arith, k.roomy, c.min-2.ensures, c.min.ensures)
-
-pub each_at_most-requires : goal.each_at_most-requires
-each_at_most-requires c = (tiers_fitting _ _ _ (sym c.owing_in_order.ensures ∙ c.if-not-owing_in_order.false)).sound.few
-
-pub each_at_most-requires-else-not-each_at_most : goal.each_at_most-requires-else-not-each_at_most
-each_at_most-requires-else-not-each_at_most c = (tiers_fitting _ _ _ (sym c.owing_in_order.ensures ∙ c.if-not-owing_in_order.false)).sound.few
 
 -- the second test is of the claims and what is owing, the third of what was paid and the claims
 pub returns-then-not-each_at_most : goal.returns-then-not-each_at_most
@@ -81,9 +62,6 @@ returns-then-not-each_at_most c =
           let third = w.each_at_most-else-not-each_at_most.ensures ∙ each_tested _ _ a.n (omega (arith, few)) (omega (arith, few)) paid claims in
           simp (sym first ∙ c.if-not-owing_in_order.false, sym second ∙ w.if-not-each_at_most.false, sym third ∙ w.if-not-each_at_most-2.true)
     ]
-
-pub excesses-requires : goal.excesses-requires
-excesses-requires c = (tiers_fitting _ _ _ (sym c.owing_in_order.ensures ∙ c.if-not-owing_in_order.false)).sound.few
 
 pub total-requires : goal.total-requires
 total-requires c =

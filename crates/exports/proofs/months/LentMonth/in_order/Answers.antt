@@ -1,7 +1,6 @@
 use mathlib.Core.Path.{◌≡◌, sym, ◌∙◌}
 use mathlib.Core.List.{List}
 use Prim.Native.Nat.{ℕ, ◌+◌, ◌*◌, min}
-use native.Mathlib.Omega.{arith}
 use lib.Dec.{eqb}
 use borrow.Author.Tests.{le-leb, lt-leb, eq-eqb, ne_eqb}
 use Rattle.exact.specs.Rows.{at, sum}
@@ -17,21 +16,6 @@ totals : (n : ℕ) (by to : List ℕ) (by_total to_total : ℕ) → TiersSound n
     → to_total ≡ min (sum (at to) (tiers * n)) (side_limit + 1) → eqb by_total to_total ≡ eqb (sum (row_of by) n) (sum (owing_of to) n)
 totals n by to by_total to_total s b t = rw (b, t) (totals_tested n by to s)
 
-pub side_total-requires : goal.side_total-requires
-side_total-requires c =
-    let known = tiers_fitting _ _ _ (sym c.owing_in_order.ensures ∙ c.if-not-owing_in_order.false) in
-    omega (arith, known.sound.few, c.if-self-lt-PLACES.false)
-
-pub overflow_mul-self : goal.overflow_mul-self
-overflow_mul-self c =
-    let known = tiers_fitting _ _ _ (sym c.owing_in_order.ensures ∙ c.if-not-owing_in_order.false) in
-    omega (arith, known.sound.few)
-
-pub side_total-requires-else-self-lt-PLACES : goal.side_total-requires-else-self-lt-PLACES
-side_total-requires-else-self-lt-PLACES c =
-    let known = tiers_fitting _ _ _ (sym c.owing_in_order.ensures ∙ c.if-not-owing_in_order.false) in
-    omega (arith, known.sound.few, known.sound.long)
-
 pub returns-then-not-owing_in_order : goal.returns-then-not-owing_in_order
 unfolding all_of in_order
 returns-then-not-owing_in_order c =
@@ -43,9 +27,6 @@ returns-then-not-owing_in_order c =
           let third = totals _ _ _ _ _ (tiers_fitting _ _ _ passed).sound w.side_total.ensures w.side_total-else-self-lt-PLACES.ensures in
           simp (passed, le-leb _ _ w.if-self-lt-PLACES.false, sym third ∙ ne_eqb _ _ w.if-side_total.true)
     ]
-
-pub groups_in_order-requires : goal.groups_in_order-requires
-groups_in_order-requires c = (tiers_fitting _ _ _ (sym c.owing_in_order.ensures ∙ c.if-not-owing_in_order.false)).sound.few
 
 pub returns : goal.returns
 unfolding all_of in_order
