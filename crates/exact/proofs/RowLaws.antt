@@ -11,6 +11,7 @@ use lib.Dec.{eqb}
 use lib.ListN.{get_or, take, drop, set, length, length-set, length-append, length-drop, length-replicate, get_or-append, get_or-eq_default, replicate, get_or-replicate}
 use lib.Seq.{take-suc, drop-cons, drop_at, set_at, get_or_at, set-get_or, get_or-set_same, get_or-set_other, ext_get_or}
 use Rattle.std.specs.List.{sum_by, fold}
+use Rattle.std.proofs.lemmas.List.{drop_all, length-take}
 use Rattle.std.proofs.lemmas.List.Sums.{sum_by_more, fold_more}
 use Rattle.exact.proofs.Cases.{cases_eq, le_or_lt, eq_or_ne}
 use Rattle.exact.specs.Rows.{places, at, sum, largest, table, filled, cells}
@@ -159,6 +160,11 @@ module _ {A : Type 0} (f : ℕ → A) where
   pub filled_length : (n : ℕ) (d : List A) → n ≤ length d → length (filled f n d) ≡ length d
   unfolding filled
   filled_length n d h = omega (arith, length-append (table f n) (drop n d), table_length n, length-drop n d)
+
+  -- filled in its first places apart from the others
+  pub filled_take : (n : ℕ) (d : List A) → n ≤ length d → filled f n (take n d) ++ drop n d ≡ filled f n d
+  unfolding filled
+  filled_take n d h = rw (let e : drop n (take n d) ≡ [] = drop_all n (take n d) (omega (arith, length-take n d)) in e) (append_assoc (table f n) [] (drop n d))
 
   pub filled_at : (n i : ℕ) (d : List A) (z : A) → i < n → get_or (filled f n d) i z ≡ f i
   unfolding filled

@@ -2,7 +2,7 @@
 ghost use Rattle.std.specs.Prelude.{◌≡◌, true, false, cond, leb, take, Some, None, ◌≤◌};
 ghost use Rattle.std.specs.List.{list_all, zip};
 ghost use Rattle.exact.specs.Division.{Proportional};
-ghost use Rattle.exact.specs.Rows.{places, at};
+ghost use Rattle.exact.specs.Rows.{places};
 ghost use Rattle.exports.specs.Orders.{owing_in_order, groups_in_order, in_order, received_in_order, late_money_in_order};
 ghost use Rattle.exports.specs.Answers.{notice_of};
 

@@ -10,7 +10,8 @@ use crate::month::MonthSums;
 use crate::walk::meet_tiers;
 use exact::{Row, excesses, sums, total};
 
-// What steps 1 to 3 hand on. Scaled amounts are in two rows: `above` where they are positive, `below`, with the sign turned, where they are negative.
+// What steps 1 to 3 hand on. Scaled amounts are in two rows: `above` where they are positive, `below`, with the sign turned, where they
+// are negative. They are not one row of signed cents, since `scaled_amounts` has the two and C callers get each in a slice of its own.
 #[derive(Clone, Copy)]
 pub struct Scaled {
     pub claims: Row,

@@ -93,7 +93,8 @@ fn with_leftover(d: Divided, leftover: u64, least: u64, n: usize) -> Row
     let Divided { cents, remainders } = d;
     let mut out = [0u64; PLACES];
     let mut spare = leftover - count_from(&remainders, least, n);
-    // A loop and no call of `cells`, since each cell needs the cents that those before it left spare.
+    // A loop and no call of `cells`, since each cell needs the cents that those before it left spare; by numbers, since a turn reads
+    // two rows and writes a third, for which a zip of three is no plainer.
     for i in 0..n {
         let (cent, rest) = cent_for(remainders[i], least, spare);
         out[i] = cents[i] + cent;

@@ -1,7 +1,7 @@
 // Clause 14.59(1), (4) and (5), in its own order (01, Settlement, step 4; 02, d). Of its amounts payable, AP, the scaled ones are
 // `above` and `below`, the revised ones `balances`, and AP negative, with its sign turned, is `negative`, 01's D. Of its amounts
 // owing, AO, the revised ones are `revised`, 01's V, and AO positive is `positive`, W.
-ghost use Rattle.std.specs.Prelude.{◌≡◌, cond, eqb, ◌*◌, ◌^◌, ◌≤◌, ◌<◌, min};
+ghost use Rattle.std.specs.Prelude.{◌≡◌, ◌*◌, ◌^◌, ◌≤◌, ◌<◌, min};
 ghost use Rattle.exact.specs.Rows.{places, at, sum, cells};
 ghost use Rattle.exact.specs.Division.{ceil_div, Proportional};
 ghost use Rattle.settlement.specs.Rounds.{negatives_at_zero, weight, loss, spread, Backing};
@@ -65,6 +65,7 @@ pub fn spread(above: Row, below: Row, revised: Row, n: usize) -> Spent
     // AO positive: the sum of the revised amounts owing of those whose scaled amount is positive.
     let mut positive = total_of_positive(balances, revised, n);
     let mut count = 0u64;
+    // A loop whose `break` yields the rounds: it has two ways out, each of its own reason, and the definition counts the same rounds.
     let rounds = loop {
         // (1) before the first round: no scaled amount is negative. After a round: (5) has nothing more to take.
         if negative == 0 {

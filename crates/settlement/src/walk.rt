@@ -31,11 +31,12 @@ pub fn meet_tiers(wanted: TierCells, money: u64, n: usize) -> Row
 {
     let mut out = [0u64; PLACES];
     let mut left = money;
+    // A counted loop, since `tier` takes the number of the tier.
     for t in 0..TIERS {
         let row = tier(&wanted, t, n);
         let whole = total(row, n);
         let shares = tier_share(row, left, whole, n);
-        // By `next`, since the proof covers no call whose result is put straight into an array that lives on.
+        // By `next`: tried without it, and the check covers no call whose result is put straight into a local that holds an array.
         let next = sums(out, shares, n);
         out = next;
         left = left.saturating_sub(whole);
