@@ -5,7 +5,6 @@ use native.Mathlib.Nat.{mod-lt}
 use native.Mathlib.Omega.{arith}
 use Rattle.exact.proofs.LongDivision.{digit_le, quotient_le}
 use Rattle.exact.proofs.division.proportion.Goals as goal
-use Rattle.exact.proofs.division.proportion.Goals.{After-next_digit-middle}
 
 -- the two upper digits of the amount
 abbrev upper : ℕ → ℕ
@@ -13,12 +12,6 @@ upper b = b / 2 ^ 30 * 2 ^ 15 + b / 2 ^ 15 % 2 ^ 15
 
 whole : (b : ℕ) → upper b * 2 ^ 15 + b % 2 ^ 15 ≡ b
 whole b = omega arith
-
--- after the first call, the upper digits are divided
-middle : (c : After-next_digit-middle) →
-    (c.next_digit-middle.result.quotient ≡ upper c.args.amount * c.args.part / c.args.whole) ×
-    (c.next_digit-middle.result.remainder ≡ upper c.args.amount * c.args.part % c.args.whole)
-middle c = c.next_digit-middle.ensures (c.args.amount / 2 ^ 30) refl refl
 
 pub overflow_mul-n : goal.overflow_mul-n
 overflow_mul-n c = omega (arith, digit_le {k = c.args.amount / 2 ^ 30} {B = 2 ^ 14} c.requires.within (omega arith))
@@ -30,9 +23,10 @@ next_digit-middle-requires c =
 
 pub next_digit-requires : goal.next_digit-requires
 next_digit-requires c =
-    omega (arith, middle c, quotient_le (upper c.args.amount) c.requires.within, mod-lt (upper c.args.amount * c.args.part) c.requires.some)
+    omega (arith, c.next_digit-middle.ensures (c.args.amount / 2 ^ 30) refl refl, quotient_le (upper c.args.amount) c.requires.within, mod-lt (upper c.args.amount * c.args.part) c.requires.some)
 
 pub returns : goal.returns
 returns c =
     let b = c.args.amount in
-    rw (whole b) at (c.next_digit.ensures (upper b) (middle c.before).0 (middle c.before).1)
+    let middle = c.next_digit-middle.ensures (b / 2 ^ 30) refl refl in
+    rw (whole b) at (c.next_digit.ensures (upper b) middle.0 middle.1)

@@ -1,43 +1,25 @@
 -- `Running` says where the rounds stand; each way out of the loop and each turn of it is one of its laws.
-use Prim.Native.Nat.{◌-◌, ◌<◌}
+use Prim.Native.Nat.{ℕ, ◌-◌, ◌<◌}
 use mathlib.Core.Path.{◌≡◌, refl, sym, ◌∙◌}
+use mathlib.Core.List.{List}
 use native.Mathlib.Nat.{pos_of_ne-zero}
 use native.Mathlib.Omega.{arith}
 use Rattle.exact.specs.Rows.{at, sum, cells}
 use Rattle.exact.proofs.RowLaws.{cells_again, cells_both, holds, holds_own, sum_holds, sum_mono}
-use Rattle.settlement.specs.Rounds.{negatives_at_zero, weight, loss, spread}
+use Rattle.settlement.specs.Rounds.{negatives_at_zero, loss, spread}
 use Rattle.settlement.proofs.LossLaws.{loss_le}
 use Rattle.settlement.proofs.RoundLaws.{Alike, holds_alike, spread_alike}
 use Rattle.settlement.proofs.Running.{backing_held, running_start, running_bound, running_backing, running_done, running_spent, running_less, running_step}
 use Rattle.settlement.proofs.spread.spread.Goals as goal
-use Rattle.settlement.proofs.spread.spread.Goals.{After-excesses-left, After-losses-lost, After-total-negative, Else-positive-eq0}
 
 -- what the rounds make of the array that (a) left, they make of the amounts themselves
-start_alike : (c : After-total-negative) → let x = c.args in let v = at x.revised in
-    Alike x.n (spread x.n v (at c.negatives_at_zero-balances.result) c.total-negative.result) (spread x.n v (negatives_at_zero (at x.above) (at x.below)) (sum (at x.below) x.n))
-start_alike c =
-    let x = c.args in
-    rw c.total-negative.ensures (spread_alike x.n _ _ (λ _ _. refl) _ _ _ (holds _ _ c.negatives_at_zero-balances.ensures).reads)
+start_alike : (n : ℕ) (v above below : ℕ → ℕ) {balances : List ℕ} {negative : ℕ} → balances ≡ cells (negatives_at_zero above below) n → negative ≡ sum below n
+    → Alike n (spread n v (at balances) negative) (spread n v (negatives_at_zero above below) (sum below n))
+start_alike n v above below b e = rw e (spread_alike n _ _ (λ _ _. refl) _ _ _ (holds _ _ b).reads)
 
--- a round that runs has a deficit before it, and a W above 0
-deficit_some : (c : Else-positive-eq0) → 0 < c.loop-negative.negative
-deficit_some c = pos_of_ne-zero c.if-negative-eq0.false
-
-weight_some : (c : Else-positive-eq0) → let l = c.loop-negative in let x = c.args in
-    0 < sum (weight (at x.revised) (at l.balances)) x.n
-weight_some c = pos_of_ne-zero (λ e. c.if-positive-eq0.false (c.loop-negative.invariant.1 ∙ e))
-
--- what all lose
-lost_total : (c : After-losses-lost) → let l = c.loop-negative in let x = c.args in
-    sum (at c.losses-lost.result) x.n ≡ sum (loss x.n (at x.revised) (at l.balances) l.negative) x.n
-lost_total c = sum_holds (holds _ _ c.losses-lost.ensures)
-
--- what is left
-left_next : (c : After-excesses-left) → let l = c.loop-negative in let x = c.args in
-    c.excesses-left.result ≡ cells (λ i. at l.balances i - loss x.n (at x.revised) (at l.balances) l.negative i) x.n
-left_next c =
-    let l = c.loop-negative in
-    c.excesses-left.ensures ∙ cells_both ◌-◌ (holds_own l.balances _) (holds _ _ c.losses-lost.ensures)
+-- a round that runs has a W above 0
+weight_some : {positive w : ℕ} → positive ≡ w → (positive ≡ 0 → ⊥) → 0 < w
+weight_some e h = pos_of_ne-zero (λ z. h (e ∙ z))
 
 pub negatives_at_zero-balances-requires : goal.negatives_at_zero-balances-requires
 negatives_at_zero-balances-requires c = c.requires.few
@@ -64,7 +46,7 @@ total-requires c =
     let l = c.loop-negative in
     let x = c.args in (
       l.invariant.0.backing.few,
-      omega (arith, lost_total c.before, running_bound _ _ _ _ l.invariant.0, sum_mono (loss x.n (at x.revised) (at l.balances) l.negative) (at l.balances) x.n (λ i _. loss_le x.n (at x.revised) (at l.balances) l.negative i)),
+      omega (arith, sum_holds (holds _ _ c.losses-lost.ensures), running_bound _ _ _ _ l.invariant.0, sum_mono (loss x.n (at x.revised) (at l.balances) l.negative) (at l.balances) x.n (λ i _. loss_le x.n (at x.revised) (at l.balances) l.negative i)),
     )
 
 pub total_of_positive-positive-requires-in-loop-negative : goal.total_of_positive-positive-requires-in-loop-negative
@@ -72,27 +54,29 @@ total_of_positive-positive-requires-in-loop-negative c = let b = c.loop-negative
 
 pub overflow_add-count : goal.overflow_add-count
 overflow_add-count c =
-    let r = c.before.before.before.before.before in
-    omega (arith, running_less _ _ _ _ r.loop-negative.invariant.0 (deficit_some r) (weight_some r))
+    let i = c.loop-negative.invariant in
+    omega (arith, running_less _ _ _ _ i.0 (pos_of_ne-zero c.if-negative-eq0.false) (weight_some i.1 c.if-positive-eq0.false))
 
 pub loop-negative-smaller : goal.loop-negative-smaller
 loop-negative-smaller c =
-    let r = c.before.before.before.before.before in
-    omega (arith, running_less _ _ _ _ r.loop-negative.invariant.0 (deficit_some r) (weight_some r))
+    let i = c.loop-negative.invariant in
+    omega (arith, running_less _ _ _ _ i.0 (pos_of_ne-zero c.if-negative-eq0.false) (weight_some i.1 c.if-positive-eq0.false))
 
 pub loop-negative-preserved : goal.loop-negative-preserved
 loop-negative-preserved c =
-    let t = c.before.before.before.before in
-    let r = t.before in (
-      rw (left_next c.before.before.before, c.saturating_sub-negative.ensures, c.total.ensures, lost_total t)
-          (running_step _ _ _ _ r.loop-negative.invariant.0 (deficit_some r) (weight_some r)),
+    let l = c.loop-negative in
+    let lost = holds _ _ c.losses-lost.ensures in
+    let left = c.excesses-left.ensures ∙ cells_both ◌-◌ (holds_own l.balances _) lost in (
+      rw (left, c.saturating_sub-negative.ensures, c.total.ensures, sum_holds lost)
+          (running_step _ _ _ _ l.invariant.0 (pos_of_ne-zero c.if-negative-eq0.false) (weight_some l.invariant.1 c.if-positive-eq0.false)),
       omega (arith, c.total_of_positive-positive-in-loop-negative.ensures),
     )
 
 pub returns-then-negative-eq0 : goal.returns-then-negative-eq0
-returns-then-negative-eq0 c = holds_alike (start_alike c.before.before.before) (running_done _ _ _ _ c.loop-negative.invariant.0 c.if-negative-eq0.true)
+returns-then-negative-eq0 c =
+    holds_alike (start_alike _ _ _ _ c.negatives_at_zero-balances.ensures c.total-negative.ensures) (running_done _ _ _ _ c.loop-negative.invariant.0 c.if-negative-eq0.true)
 
 pub returns-then-positive-eq0 : goal.returns-then-positive-eq0
 returns-then-positive-eq0 c =
     let i = c.loop-negative.invariant in
-    holds_alike (start_alike c.before.before.before.before) (running_spent _ _ _ _ i.0 (sym i.1 ∙ c.if-positive-eq0.true))
+    holds_alike (start_alike _ _ _ _ c.negatives_at_zero-balances.ensures c.total-negative.ensures) (running_spent _ _ _ _ i.0 (sym i.1 ∙ c.if-positive-eq0.true))
