@@ -5,7 +5,7 @@ use mathlib.Core.List.{List}
 use native.Mathlib.Omega.{arith}
 use Rattle.exact.specs.Rows.{at, sum, cells}
 use Rattle.exact.proofs.RowLaws.{cells_both, holds, sum_holds}
-use Rattle.settlement.specs.Month.{Month, month_of_sums, owing_to}
+use Rattle.settlement.specs.Month.{Month, owing_to}
 use Rattle.settlement.specs.Claims.{claim, arrears, claimed}
 use Rattle.settlement.specs.Tiers.{met}
 use Rattle.settlement.specs.Settling.{available, revised, scaled_above, scaled_below}
@@ -35,49 +35,40 @@ module _ (m : Month) (kept received : ℕ → ℕ) {k : Claimed} (e : k ≡ clai
 
 pub total-requires : goal.total-requires
 total-requires c =
-    let m = month_of_sums c.args.self.now in
-    let d = c.requires.1 in
-    (c.requires.0.few, omega (arith, sum_holds (holds _ _ (owing m d.retained (at c.args.received) (c.claim.ensures d))), c.requires.0.to_total))
+    let q = c.requires in
+    (q.0.few, omega (arith, sum_holds (holds _ _ (owing _ _ _ (c.claim.ensures q.1))), q.0.to_total))
 
 pub total-requires-2 : goal.total-requires-2
 total-requires-2 c =
-    let m = month_of_sums c.args.self.now in
-    let r = at c.args.received in
-    let d = c.requires.1 in (
-      c.requires.0.few,
-      omega (arith, sum_holds (holds _ _ (behind m d.retained r (c.claim.ensures d))), c.requires.0.by_total, arrears_total_le m d.retained r d.sound),
-    )
+    let q = c.requires in
+    (q.0.few, omega (arith, sum_holds (holds _ _ (behind _ _ _ (c.claim.ensures q.1))), q.0.by_total, arrears_total_le _ _ (at c.args.received) q.1.sound))
 
 pub meet_tiers-revised-requires : goal.meet_tiers-revised-requires
 meet_tiers-revised-requires c = (c.requires.0.few, c.requires.0.to_total)
 
 pub sums-claims_and_revised-requires : goal.sums-claims_and_revised-requires
 sums-claims_and_revised-requires c =
-    let m = month_of_sums c.args.self.now in
     let r = at c.args.received in
-    let d = c.requires.1 in
-    let e = c.claim.ensures d in
-    let row = met_row m d.retained r e c.total.ensures c.total-2.ensures c.saturating_sub-available.ensures c.meet_tiers-revised.ensures in (
-      c.requires.0.few,
+    let q = c.requires in
+    let e = c.claim.ensures q.1 in
+    let row = met_row _ _ _ e c.total.ensures c.total-2.ensures c.saturating_sub-available.ensures c.meet_tiers-revised.ensures in (
+      q.0.few,
       λ i h. omega (
         arith,
-        (holds _ _ (claims m d.retained r e)).reads i h,
+        (holds _ _ (claims _ _ _ e)).reads i h,
         (holds _ _ row).reads i h,
-        to_bound m c.requires.0 i h,
-        claim_le m d.retained r d.sound i,
-        revised_le m d.retained r d.sound i,
+        to_bound _ q.0 i h,
+        claim_le _ _ r q.1.sound i,
+        revised_le _ _ r q.1.sound i,
       ),
     )
 
 pub returns : goal.returns
 unfolding scaled_above scaled_below
 returns c d =
-    let m = month_of_sums c.args.self.now in
-    let r = at c.args.received in
     let e = c.claim.ensures d in
-    let row = met_row m d.retained r e c.total.ensures c.total-2.ensures c.saturating_sub-available.ensures c.meet_tiers-revised.ensures in
-    let o = holds (owing_to m) m.n (owing m d.retained r e) in
-    let both = holds _ m.n (c.sums-claims_and_revised.ensures ∙ cells_both ◌+◌ (holds (claim m d.retained r) m.n (claims m d.retained r e)) (holds (revised m d.retained r) m.n row)) in
-    let above : c.excesses-above.result ≡ cells (scaled_above m d.retained r) m.n = c.excesses-above.ensures ∙ cells_both ◌-◌ both o in
-    let below : c.excesses-below.result ≡ cells (scaled_below m d.retained r) m.n = c.excesses-below.ensures ∙ cells_both ◌-◌ o both in
-    λ z. record { claims = claims m d.retained r e z; arrears = behind m d.retained r e z; revised = row z; above = above z; below = below z }
+    let row = met_row _ _ _ e c.total.ensures c.total-2.ensures c.saturating_sub-available.ensures c.meet_tiers-revised.ensures in
+    let both = c.sums-claims_and_revised.ensures ∙ cells_both ◌+◌ (holds _ _ (claims _ _ _ e)) (holds _ _ row) in
+    let above = c.excesses-above.ensures ∙ cells_both ◌-◌ (holds _ _ both) (holds _ _ (owing _ _ _ e)) in
+    let below = c.excesses-below.ensures ∙ cells_both ◌-◌ (holds _ _ (owing _ _ _ e)) (holds _ _ both) in
+    λ z. record { claims = claims _ _ _ e z; arrears = behind _ _ _ e z; revised = row z; above = above z; below = below z }
