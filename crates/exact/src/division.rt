@@ -21,6 +21,7 @@ fn next_digit(upper: Quotient, digit: u64, part: u64, whole: u64) -> Quotient
     }
 }
 
+// Public functions of plain numbers: `Proportional` stays a clause, since a type would be asked of every caller.
 // amount × part / whole with its remainder. The amount is taken in digits of 14, 15 and 15 bits, highest first.
 pub fn proportion(amount: u64, part: u64, whole: u64) -> Quotient
     requires { Proportional amount part whole }

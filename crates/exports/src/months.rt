@@ -55,7 +55,7 @@ impl<'a> LentMonth<'a> {
     }
 }
 
-// What money that comes late pays.
+// What money that comes late pays. The C function and two of ours take these slices: a struct of them would be made to be read twice.
 pub fn late_of(to: &[u64], claims: &[u64], paid: &[u64], money: u64, n: usize) -> Row
     requires { TiersSound n to.now × (places ≤ length claims.now) × (places ≤ length paid.now) }
     ensures { result ≡ cells (late_payment (tier_at (front tier_places to.now)) (row_of claims.now) (row_of paid.now) n money) n }

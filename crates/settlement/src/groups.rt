@@ -30,7 +30,8 @@ pub fn is_grouping_allowed(grouping: Grouping, n: usize) -> bool
         && largest(grouping.reserves, GROUPS) <= RESERVE_LIMIT
 }
 
-// The sum of a row over the members of each group, in one pass over the participants.
+// The sum of a row over the members of each group, in one pass over the participants. Here and below the sum of the row is bounded in a
+// clause, as `total` of `exact` asks it of any row.
 pub fn group_sums(a: Row, groups: Row, n: usize) -> GroupRow
     requires { (n ≤ places) × (sum (at a) n < 2 ^ 64) × ((i : ℕ) → i < n → at groups i < group_count) }
     ensures { result ≡ cells (group_sum (at groups) n (at a)) group_count }

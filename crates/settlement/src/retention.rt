@@ -8,7 +8,8 @@ ghost use Rattle.settlement.specs.Groups.{group_count};
 use crate::groups::{GROUPS, GroupRow};
 use exact::{Row, cells, largest, proportion_up};
 
-// What a group, with the shortfall s and the tier 5 total g outside it, gives a participant whose tier 5 part is `part`.
+// What a group, with the shortfall s and the tier 5 total g outside it, gives a participant whose tier 5 part is `part`. The
+// bounds of g and the part stand in the clauses: they come from cells of rows, which are plain numbers.
 fn gift(s: u64, g: u64, part: u64) -> u64
     requires { (g < 2 ^ 44) × (part < 2 ^ 44) }
     ensures { result ≡ gives s g part }

@@ -17,7 +17,8 @@ struct Divided {
     remainders: Row,
 }
 
-// The shares of n participants rounded down, where `whole` is what their weights come to.
+// The shares of n participants rounded down, where `whole` is what their weights come to. Here, in `cut` and in the walk through the
+// tiers its bound is asked in a clause: a type of totals within it would be made and taken apart for each sum.
 fn floor_shares(weights: Row, amount: u64, whole: u64, n: usize) -> Divided
     requires { (n ≤ places) × (whole ≤ side_limit) × Shareable (at weights) amount whole n }
     ensures { (result.cents ≡ cells (floor_share (at weights) amount whole) n) × (result.remainders ≡ cells (remainder (at weights) amount whole) n) }
