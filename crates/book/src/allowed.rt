@@ -13,6 +13,7 @@ pub(crate) struct Allowed {
     ghost fields: { allowed entry ≡ true },
 }
 
+// `as`, in a constant, where no From can be called.
 const PARTICIPANTS: u8 = PLACES as u8;
 
 const LAST_TIER: u8 = TIERS as u8;

@@ -27,6 +27,7 @@ impl Refusal {
     pub fn number(self) -> u64
         ensures { result ≡ number_of (Err self) }
     {
+        // `as`: std has no From for the number of a variant.
         self as u64
     }
 }

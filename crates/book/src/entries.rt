@@ -61,13 +61,15 @@ pub enum Kind {
     Washup = 8,
 }
 
-// The length of a body, by kind; there is no kind 0. A constant array, as the definition `body_lengths` is a list.
+// The length of a body, by kind; there is no kind 0. A constant array by kind, the form that the rules
+// document names, as the definition `body_lengths` is a list.
 const BODY_LENGTHS: [usize; 9] = [0, 4, 14, 15, 4, 13, 4, 9, 22];
 
 impl Kind {
     pub(crate) fn number(self) -> u8
         ensures { result ≡ kind_number self }
     {
+        // `as`, here and below: std has no From for the number of a variant.
         self as u8
     }
 

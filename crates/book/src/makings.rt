@@ -33,6 +33,7 @@ pub struct Made {
 pub fn separate(n: usize, limits: Limits) -> Making
     ensures { result ≡ separate n limits }
 {
+    // `as`: std has no From between usize and u64.
     let groups = cells(PLACES, |i| i as u64);
     let grouping = Grouping {
         groups,

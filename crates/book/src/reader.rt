@@ -28,6 +28,7 @@ impl ReadError {
     pub fn number(self) -> u64
         ensures { result ≡ read_number self }
     {
+        // `as`: std has no From for the number of a variant.
         self as u64
     }
 }

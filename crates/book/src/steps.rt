@@ -74,6 +74,7 @@ impl Book {
         requires { NamedAt self.old e self.old.n j }
         ensures { self.new ≡ pack (after_drawing (view self.old) e) }
     {
+        // n, before a period and the purses are borrowed.
         let n = self.n;
         if e.is_settle() {
             let drawable = self.drawable_purses(self.periods[j].number);
@@ -86,6 +87,7 @@ impl Book {
         requires { NamedAt self.old e.entry (length words.old) j }
         ensures { Enters self.old (record { entry = e.entry; words = words.old }) result self.new words.new }
     {
+        // n, before the book draws.
         let n = self.n;
         let barred = self.is_barred(e);
         self.draw_for(e.entry, j);

@@ -22,6 +22,7 @@ impl WriteError {
     pub fn number(self) -> u64
         ensures { result ≡ write_number self }
     {
+        // `as`: std has no From for the number of a variant.
         self as u64
     }
 }

@@ -43,7 +43,7 @@ fn list_blocks<R: Read, W: Write>(
     ensures { Session limits result }
 {
     let mut s = Standing::at_first(first_book(limits, feed.bytes()[0]));
-    // From 0, and no `1..=TURNS`: the invariant counts the turns done; of that range each proof would also say what is left.
+    // Counted, since every loop is proved to end and no function has a Wait bound. From 0, and no `1..=TURNS`: the invariant counts the turns done; of that range each proof would also say what is left.
     for done in 0..TURNS {
         let turns = done + 1;
         s = list_block(s, feed.bytes(), input.has_ended(), work);

@@ -50,6 +50,7 @@ pub fn put_pays(out: &mut Out, words: &Words)
     ensures { out.new ≡ out.old ++ pay_lines words.now places }
 {
     for (i, cents) in words.iter().enumerate() {
+        // `as`: std has no From between usize and u64.
         put_pay(out, i as u64, *cents);
     }
 }

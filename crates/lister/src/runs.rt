@@ -27,6 +27,7 @@ fn put_lines(out: &mut Out, first: u64, lines: &[u64])
     ensures upper_bound { length out.new ≤ length out.old + length lines.now / 3 * line_room }
 {
     for (i, line) in lines.chunks_exact(LINE).enumerate() {
+        // `as`, here and below: std has no From between usize and u64.
         put_line(out, first.wrapping_add(i as u64), line[0], line[1], line[2]);
     }
 }
@@ -64,6 +65,7 @@ pub fn list_runs(start: Standing, feed: &[u8], work: &mut Work) -> Standing
     let mut s = start;
     s.next = Next::Again;
     out.clear();
+    // A `while`: a run says where the next begins, and nothing is counted.
     while out.len() <= WAITING {
         let Ran { book, place, wrote } = book::run(s.book, feed, s.place, words, lines);
         s.book = book;

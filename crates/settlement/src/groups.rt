@@ -5,7 +5,7 @@ ghost use Rattle.settlement.specs.Groups.{group_count, grouping_allowed, group_s
 
 use exact::{Row, cells, largest, total};
 
-// Group numbers are 0 to 63.
+// Group numbers are 0 to 63. `as` takes them to places and back below: std has no From between usize and u64.
 pub const GROUPS: usize = 64;
 
 // A group's GST reserve is at most this many cents.

@@ -39,6 +39,7 @@ fn count_from(remainders: &Row, least: u64, n: usize) -> u64
     requires { n ≤ places }
     ensures { result ≡ count_from (at remainders.now) n least }
 {
+    // `as`: std has no From between usize and u64.
     remainders[..n].iter().filter(|r| least <= **r).count() as u64
 }
 
@@ -63,6 +64,7 @@ fn cut(remainders: &Row, leftover: u64, whole: u64, n: usize) -> u64
 {
     let mut low = 0u64;
     let mut least = whole;
+    // A `while`: it halves what is between, and counts nothing.
     while 1 < least - low {
         let middle = low + (least - low) / 2;
         let count = count_from(remainders, middle, n);

@@ -36,7 +36,7 @@ pub fn meet_tiers(wanted: TierCells, money: u64, n: usize) -> Row
         let row = tier(&wanted, t, n);
         let whole = total(row, n);
         let shares = tier_share(row, left, whole, n);
-        // By `next`: tried without it, and the check covers no call whose result is put straight into a local that holds an array.
+        // By `next`: tried without it, and the check covers no call whose result is put straight into a local whose type is an array.
         let next = sums(out, shares, n);
         out = next;
         left = left.saturating_sub(whole);

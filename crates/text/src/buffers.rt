@@ -71,6 +71,7 @@ impl<const N: usize> Buffer<N> {
         requires { length self.old + length bytes.now ≤ N }
         ensures { self.new ≡ self.old ++ bytes.now }
     {
+        // The length, before it grows.
         let start = self.len;
         let end = start + bytes.len();
         let room = &mut self.room[..];
@@ -92,6 +93,7 @@ impl<const N: usize> Buffer<N> {
         ensures same { take (length self.old) self.new ≡ self.old }
         ensures count { length self.new ≡ length self.old + came result }
     {
+        // The length, before it grows.
         let filled = self.len;
         let room = &mut self.room[..];
         let got = from.read(&mut room[filled..]);

@@ -41,6 +41,7 @@ pub struct Errors {
 fn counted(total: u64, more: usize) -> u64
     ensures { result ≡ min (total + more) most }
 {
+    // `as`: std has no From between usize and u64.
     total.saturating_add(more as u64)
 }
 

@@ -44,7 +44,7 @@ fn put_fields(out: &mut Out, next: usize, kind: u8, fields: &[u64])
 }
 
 // Puts the line of a read that found an entry.
-// Over 40 lines, an arm for each of the eight kinds: each of two functions would need an arm for the kinds of the other.
+// Long, an arm for each of the eight kinds: each of two functions would need an arm for the kinds of the other.
 fn put_found(out: &mut Out, entry: Entry, next: usize) {
     match entry {
         Entry::Open { period } => put_fields(out, next, OPEN, &[period.into()]),

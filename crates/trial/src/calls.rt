@@ -57,7 +57,7 @@ pub struct Fields {
     pub room: u8,
 }
 
-// The bytes from a place on that make a number.
+// The bytes from a place on that make a number. `word_at` and `long_at` below are two, since a number's type has its own from_le_bytes.
 fn bytes_at<const N: usize>(s: &[u8], place: usize) -> [u8; N]
     requires { place + N ≤ length s.now }
 {

@@ -1,4 +1,4 @@
-// What a call makes a book with.
+// What a call makes a book with. `as`, here and in `calling`: std has no From between usize and u64.
 ghost use Rattle.std.specs.Prelude.{◌≤◌, length};
 
 use crate::calls::long_at;

@@ -35,6 +35,7 @@ settle-settled-requires c =
     let k = settling (sym c.in-Some.is ∙ c.payable.ensures) in
     rw (c.sums.ensures, k.is) (bounded k.sound, notice_due _ _)
 
+-- the room by hand: with its law named for the search, this gave up at its limits
 pub put_cells-requires : goal.put_cells-requires
 put_cells-requires c = (omega arith, omega (arith, (settling (sym c.in-Some.is ∙ c.payable.ensures)).roomy, c.min-room.ensures, c.min.ensures))
 
