@@ -1,3 +1,3 @@
-pub mod BufferLaws
+pub mod SliceLaws
 pub mod NumberLaws
 pub mod StreamLaws

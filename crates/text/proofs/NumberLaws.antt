@@ -1,5 +1,5 @@
 -- The digits of a number.
-use Rattle.std.proofs.Common.{◌≡◌, refl, sym, ap, ◌∙◌, ℕ, zero, suc, ◌+◌, ◌*◌, ◌-◌, ◌/◌, ◌%◌, ◌^◌, ◌≤◌, ◌<◌, List, [], ◌∷◌, ◌++◌, length, get_or, append_assoc, append-nil, arith}
+use Rattle.std.proofs.Common.{◌≡◌, refl, sym, ap, ◌∙◌, ℕ, zero, suc, ◌+◌, ◌*◌, ◌-◌, ◌/◌, ◌%◌, ◌^◌, ◌≤◌, ◌<◌, Bool, true, false, cond, ltb, List, [], ◌∷◌, ◌++◌, length, length-append, get_or, append_assoc, append-nil, arith}
 use Rattle.std.proofs.Math.Nat.{pow-suc}
 use Rattle.std.proofs.Math.Numerals.{unary_clauses}
 use Rattle.std.proofs.lemmas.Bool.{lt-ltb, le-ltb}
@@ -33,9 +33,22 @@ spelled (suc more) n (suc (suc k)) h f =
     let most : 1 < suc k → 10 ^ (suc k - 1) ≤ n / 10 = λ _. simp unary_clauses (omega arith) in
     rw (glyph_is n, le-ltb n 10 l, spelled more (n / 10) (suc k) all (omega arith, less, most))
 
+pub digits_few : (more n : ℕ) → length (digits_of more n) ≤ suc more
+unfolding digits_of
+digits_few zero n = omega arith
+digits_few (suc more) n = go (ltb n 10) (digits_few more (n / 10))
+  where
+    go : (t : Bool) → length (digits_of more (n / 10)) ≤ suc more → length (cond t ((48 + n) ∷ []) (digits_of more (n / 10) ++ ((48 + n % 10) ∷ []))) ≤ suc (suc more)
+    go true l = omega arith
+    go false l = omega (arith, length-append (digits_of more (n / 10)) ((48 + n % 10) ∷ []))
+
 pub decimal_is : (n k : ℕ) → n < 2 ^ 64 → IsDigitCount 10 1 n k → last_digits 10 k n ≡ decimal n
 unfolding decimal
 decimal_is n k h f = spelled 19 n k (omega arith) f
+
+pub decimal_few : (n : ℕ) → length (decimal n) ≤ 20
+unfolding decimal
+decimal_few n = digits_few 19 n
 
 -- the first numbers, a space after each
 unfoldable pub spaced_to : List ℕ → ℕ → List ℕ

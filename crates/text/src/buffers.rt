@@ -1,7 +1,8 @@
 // Bytes one behind the other, in room of a fixed size.
 ghost use Rattle.std.specs.Prelude.{◌≡◌, ◌+◌, ◌<◌, ◌≤◌, List, [], ◌∷◌, ◌++◌, ℕ, take, drop, length};
 
-use std::io;
+use crate::slices::{keep, put_bytes};
+use crate::streams::{Fetched, Input, read_more};
 use std::io::Read;
 use std::marker::Model;
 
@@ -23,7 +24,8 @@ impl<const N: usize> Model for Buffer<N> {
 }
 
 impl<const N: usize> Buffer<N> {
-    ghost use Rattle.text.specs.Streams.{came};
+    ghost use Rattle.text.specs.Streams.{Fetches};
+    ghost use Rattle.text.specs.declared.streams.Last.TheVariants.{More};
 
     // A buffer of no byte.
     pub fn new() -> Self
@@ -71,11 +73,7 @@ impl<const N: usize> Buffer<N> {
         requires { length self.old + length bytes.now ≤ N }
         ensures { self.new ≡ self.old ++ bytes.now }
     {
-        // The length, before it grows.
-        let start = self.len;
-        let end = start + bytes.len();
-        let room = &mut self.room[..];
-        room[start..end].copy_from_slice(bytes);
+        let end = put_bytes(&mut self.room, self.len, bytes);
         self.len = end;
     }
 
@@ -83,23 +81,17 @@ impl<const N: usize> Buffer<N> {
     pub fn drop_front(&mut self, count: usize)
         ensures { self.new ≡ drop count self.old }
     {
-        let gone = count.min(self.len);
-        self.room.copy_within(gone..self.len, 0);
-        self.len -= gone;
+        self.len = keep(&mut self.room, count, self.len);
     }
 
-    // Reads once, behind the bytes there are; answers what the reader did.
-    pub(crate) fn read_from<R: Read>(&mut self, from: &mut R) -> io::Result<usize>
-        ensures same { take (length self.old) self.new ≡ self.old }
-        ensures count { length self.new ≡ length self.old + came result }
+    // Reads once, behind the bytes there are; answers the input after that.
+    pub(crate) fn read_from<R: Read>(&mut self, from: &mut R, input: Input) -> Input
+        requires more { input.last ≡ More }
+        requires room { length self.old < N }
+        ensures { Fetches input.total self.old result self.new }
     {
-        // The length, before it grows.
-        let filled = self.len;
-        let room = &mut self.room[..];
-        let got = from.read(&mut room[filled..]);
-        if let Ok(more) = got {
-            self.len += more;
-        }
-        got
+        let Fetched { input, filled } = read_more(from, input, &mut self.room, self.len);
+        self.len = filled;
+        input
     }
 }

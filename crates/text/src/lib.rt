@@ -1,9 +1,11 @@
-// What the programs read and write with: bytes one behind the other, numbers as text, and streams.
+// What the programs read and write with: bytes one behind the other, in lent slices and in buffers, numbers as text, and streams.
 #![tactic(auto)]
 
 mod buffers;
 mod numbers;
+mod slices;
 mod streams;
 
 pub use buffers::Buffer;
-pub use streams::{Errors, Input, Last, Output, write_error};
+pub use slices::{keep, put_bytes, put_number};
+pub use streams::{Errors, Fetched, Input, Last, Output, read_more, write_error};

@@ -7,6 +7,9 @@ use crate::buffers::Buffer;
 // The most digits of a number.
 const DIGITS: usize = 20;
 
+// The room that a number and a byte after it take at most.
+pub const NUMBER_ROOM: usize = DIGITS + 1;
+
 impl<const N: usize> Buffer<N> {
     // Puts the digits of a number and one byte after them.
     pub fn put_number(&mut self, number: u64, after: u8)

@@ -1,6 +1,6 @@
 // Inputs and outputs. The fields of a stream are private: only these functions count bytes, or say that an input ended or
 // failed. A caller makes each stream once, and hands each call the reader or writer that it was made for.
-ghost use Rattle.std.specs.Prelude.{◌+◌, ◌^◌, ◌≤◌, ◌<◌, min, ◌≡◌, true, length};
+ghost use Rattle.std.specs.Prelude.{◌+◌, ◌^◌, ◌≤◌, ◌<◌, min, ◌≡◌, true, length, take};
 ghost use Rattle.text.specs.Streams.{most, is_ended, is_failed, last_of, Fetches};
 ghost use Rattle.text.specs.declared.streams.Last.TheVariants.{More};
 
@@ -56,6 +56,40 @@ fn last_of(got: &io::Result<usize>) -> Last
     }
 }
 
+// An input after a read, and how many bytes of the block there are then.
+#[derive(Clone, Copy, PartialEq, Eq, Debug)]
+pub struct Fetched {
+    pub input: Input,
+    pub filled: usize,
+}
+
+// The input after a read that answered `got`, and that brought so many bytes behind the first `filled`.
+fn taken(i: Input, got: io::Result<usize>, filled: usize, more: usize) -> Fetched
+    requires { filled + more < 2 ^ 64 }
+    ensures { result ≡ record { input = record { total = min (i.total + more) most; last = last_of got }; filled = filled + more } }
+{
+    Fetched {
+        input: Input {
+            total: counted(i.total, more),
+            last: last_of(&got),
+        },
+        filled: filled + more,
+    }
+}
+
+// Reads once, behind the first `filled` bytes of a block. There is room behind them, so that a read of no byte is the end of the
+// input. The contract counts the bytes that came; that they are those which the reader gave is to be read here.
+pub fn read_more<R: Read>(from: &mut R, i: Input, block: &mut [u8], filled: usize) -> Fetched
+    requires more { i.last ≡ More }
+    requires room { filled < length block.old }
+    ensures within { result.filled ≤ length block.new }
+    ensures reads { Fetches i.total (take filled block.old) result.input (take result.filled block.new) }
+{
+    let got = from.read(&mut block[filled..]);
+    let more = got.unwrap_or(0);
+    taken(i, got, filled, more)
+}
+
 impl Input {
     // An input of which nothing was read.
     pub fn unread() -> Self
@@ -81,16 +115,13 @@ impl Input {
         self.last == Last::Failed
     }
 
-    // Reads once, behind the bytes of a block. There is room behind them, so that a read of no byte is the end of the input. The
-    // contract counts the bytes that came; that they are those which the reader gave is to be read here.
+    // Reads once, behind the bytes of a buffer.
     pub fn read_more<R: Read, const N: usize>(&mut self, from: &mut R, block: &mut Buffer<N>)
         requires more { self.old.last ≡ More }
         requires room { length block.old < N }
         ensures { Fetches self.old.total block.old self.new block.new }
     {
-        let got = block.read_from(from);
-        self.last = last_of(&got);
-        self.total = counted(self.total, got.unwrap_or(0));
+        *self = block.read_from(from, *self);
     }
 }
 

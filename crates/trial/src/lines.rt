@@ -12,6 +12,7 @@ pub type Out = Buffer<BLOCK>;
 // Puts a name and numbers as the one line of the output: what a call answered, and then what it filled or found.
 pub fn put_line(out: &mut Out, name: &[u8], answers: &[u64], others: &[u64])
     requires { length name.now + (length answers.now + length others.now) * number_room ≤ 65536 }
+    ensures { length out.new ≤ length name.now + (length answers.now + length others.now) * number_room }
 {
     out.clear();
     out.put(name);
