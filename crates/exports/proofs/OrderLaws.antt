@@ -1,13 +1,13 @@
 -- What arguments in order come to.
 use Prim.Native.Nat.{ℕ, ◌+◌, ◌*◌, ◌≤◌, ◌<◌, min}
 use mathlib.Core.Path.{◌≡◌, refl, sym, ap, ◌∙◌}
-use mathlib.Core.Bool.{Bool, true, false, cond}
+use mathlib.Core.Bool.{Bool, true, false, cond, not}
 use mathlib.Core.Logic.{⊎_elim}
 use mathlib.Core.List.{List, ◌∷◌}
 use native.Mathlib.Omega.{arith}
 use lib.ListN.{length}
 use lib.Dec.{leb, eqb}
-use borrow.Author.Tests.{leb-true, le-leb, lt-leb, eqb-true, eq-eqb, ne_eqb}
+use borrow.Author.Tests.{leb-true, le-leb, lt-leb, eqb-true, eq-eqb, ne_eqb, not-false}
 use Rattle.std.specs.Prelude.{Some, None}
 use Rattle.std.specs.Bool.{then_some}
 use Rattle.exact.specs.Rows.{places, at, sum}
@@ -79,6 +79,18 @@ fitting n by to groups reserves room h =
 pub order_roomy : (n : ℕ) (by to groups reserves : List ℕ) (room : ℕ) {b : Bool} → b ≡ in_order n by to groups reserves room → b ≡ true → places ≤ room
 order_roomy n by to groups reserves room e h = (fitting n by to groups reserves room (sym e ∙ h)).roomy
 
+pub received_fitting : (n : ℕ) (by to groups reserves received : List ℕ) (room : ℕ)
+    → received_in_order n by to groups reserves received room ≡ true
+    → Fitting (Sound n by to × GroupsSound n groups reserves) (min (length received) room)
+unfolding received_in_order
+received_fitting n by to groups reserves received room h = fitting n by to groups reserves _ (all_first _ _ h).0
+
+-- the same where a test that asks for it is passed
+pub passed_fitting : {n : ℕ} {by to groups reserves : List ℕ} (received : List ℕ) (room : ℕ) {passed : Bool}
+    → passed ≡ received_in_order n by to groups reserves received room → not passed ≡ false
+    → Fitting (Sound n by to × GroupsSound n groups reserves) (min (length received) room)
+passed_fitting received room q h = received_fitting _ _ _ _ _ _ _ (sym q ∙ not-false _ h)
+
 -- a value that is handed on where the last test is passed
 pub then_tested : {A : Type 0} (t : Bool) (x : A) → then_some t x ≡ cond (cond t true false) (Some x) None
 then_tested true x = refl
@@ -99,10 +111,9 @@ some_passed {t = false} e = absurd cc
 pub settling : {n : ℕ} {by to groups reserves received : List ℕ} {room : ℕ} {row : List ℕ}
     → Some row ≡ cond (received_in_order n by to groups reserves received room) (Some (notice_of n by to groups reserves).payable) None
     → Settling n by to groups reserves received room row
-unfolding received_in_order
 settling {n} {by} {to} {groups} {reserves} {received} {room} e =
     let h = some_passed e in
-    let k = fitting n by to groups reserves _ (all_first _ _ h.0).0 in
+    let k = received_fitting n by to groups reserves received room h.0 in
     record { passed = h.0; is = h.1; sound = k.sound.0; long = omega (arith, k.roomy); roomy = omega (arith, k.roomy) }
 
 pub late_fitting : (n : ℕ) (to claims paid : List ℕ) (money room : ℕ) → late_money_in_order n to claims paid money room ≡ true
