@@ -31,6 +31,11 @@ read_again place (Err read.Outside) = refl
 pub read_one_to_one : (place : ℕ) (a b : Result Found ReadError) → read_outcome place a ≡ read_outcome place b → a ≡ b
 read_one_to_one place a b e = sym (read_again place a) ∙ ap reading_of e ∙ read_again place b
 
+-- no entry, where none was found
+pub not_found : (place : ℕ) (a : Result Found ReadError) → ((found : Found) → a ≡ Ok found → ⊥) → (read_outcome place a).entry ≡ []
+not_found place (Ok found) other = absurd (other found refl)
+not_found place (Err e) other = refl
+
 abbrev writing_of : WriteOutcome → Result ℕ WriteError
 writing_of o = cond (eqb o.answer 0) (Ok o.count) (Err (cond (eqb o.answer 3) write.Outside write.NoRoom))
 
