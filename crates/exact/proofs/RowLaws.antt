@@ -201,6 +201,11 @@ unfolding table
 table_take s zero h = refl
 table_take s (suc n) h = rw (table_take s n (omega arith)) (sym (take-suc s n 0 h))
 
+-- a list that is filled from another has the front of that one, and its own places behind it
+pub filled_from : (s d : List ℕ) (n : ℕ) → n ≤ length s → filled (at s) n d ≡ take n s ++ drop n d
+unfolding filled
+filled_from s d n h = ap (λ (l : List ℕ). l ++ drop n d) (table_take s n h)
+
 -- the sum of f, and the largest, over the front of a list, as a chain reckons them; d is any element
 module _ {X : Type 0} (f : X → ℕ) (s : List X) (d : X) where
   pub sum_taken : (n : ℕ) → n ≤ length s → sum_by f (take n s) ≡ sum (λ i. f (get_or s i d)) n

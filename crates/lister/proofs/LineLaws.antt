@@ -5,6 +5,7 @@ use lib.Seq.{drop_at, get_or-drop}
 use Rattle.std.proofs.lemmas.List.{drop-drop}
 use Rattle.exact.specs.Rows.{places}
 use Rattle.text.specs.Numbers.{spaced}
+use Rattle.text.proofs.NumberLaws.{spaced_one, spaced_first}
 use Rattle.exact.proofs.Cases.{le_or_lt}
 use Rattle.lister.specs.Lines.{entry_line, pay_line, pay_lines}
 use Rattle.lister.specs.inner.Runs.{lines_to, last_paid, run_lines}
@@ -69,8 +70,8 @@ line_mod m k answer paid held h = rw h
 
 -- the line of an entry, as it is put
 pub entry_spaced : (number answer paid held : ℕ) → number < 2 ^ 64 → spaced (number ∷ answer ∷ paid ∷ held ∷ []) 10 ≡ entry_line number answer paid held
-unfolding entry_line spaced
-entry_spaced number answer paid held h = let m : number % 2 ^ 64 ≡ number = omega arith in simp (m, append_assoc)
+unfolding entry_line
+entry_spaced number answer paid held h = let m : number % 2 ^ 64 ≡ number = omega arith in simp (m, spaced_first, spaced_one, append_assoc)
 
 -- the line of a payout of nothing, and of one of some cents
 pub pay_none : (participant cents : ℕ) (out : List ℕ) → cents ≡ 0 → out ≡ out ++ pay_line participant cents
@@ -79,8 +80,8 @@ pay_none participant cents out z = rw (eq-eqb cents 0 z) (sym (append-nil out))
 
 pub pay_some : (participant cents : ℕ) (out : List ℕ) → (cents ≡ 0 → ⊥)
     → (out ++ 112 ∷ 97 ∷ 121 ∷ 32 ∷ []) ++ spaced (participant ∷ cents ∷ []) 10 ≡ out ++ pay_line participant cents
-unfolding pay_line spaced
-pay_some participant cents out h = simp (ne_eqb cents 0 h, append_assoc)
+unfolding pay_line
+pay_some participant cents out h = simp (ne_eqb cents 0 h, spaced_first, spaced_one, append_assoc)
 
 -- the lines of a run whose last entry has paid nothing, and of one whose last entry has paid
 pub run_alone : (first : ℕ) (lines : List ℕ) (count : ℕ) (words : List ℕ) → last_paid lines count ≡ 0 → run_lines first lines count words ≡ lines_to first lines count

@@ -69,6 +69,15 @@ spaced_last (m ∷ k ∷ l) n after =
     ∙ sym (append_assoc (decimal m ++ 32 ∷ []) (spaced_to (k ∷ l) (length (k ∷ l))) (decimal n ++ after ∷ []))
     ∙ ap (λ (x : List ℕ). x ++ (decimal n ++ after ∷ [])) (sym (spaced_more m (k ∷ l) (length (k ∷ l))))
 
+-- one number, and the first of several
+pub spaced_one : (n after : ℕ) → spaced (n ∷ []) after ≡ decimal n ++ after ∷ []
+unfolding spaced
+spaced_one n after = refl
+
+pub spaced_first : (n m : ℕ) (l : List ℕ) (after : ℕ) → spaced (n ∷ m ∷ l) after ≡ (decimal n ++ 32 ∷ []) ++ spaced (m ∷ l) after
+unfolding spaced
+spaced_first n m l after = refl
+
 pub spaced_none : (l : List ℕ) (after : ℕ) → length l ≡ 0 → spaced l after ≡ []
 unfolding spaced
 spaced_none [] after h = refl

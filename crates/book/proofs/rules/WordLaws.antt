@@ -9,9 +9,9 @@ use borrow.Author.Tests.{eq-eqb, ne_eqb}
 use lib.Dec.{eqb, ltb}
 use lib.ListN.{length, take, drop, replicate, length-replicate}
 use Rattle.std.proofs.lemmas.List.{length-take, take-replicate}
-use Rattle.exact.specs.Rows.{places, at, sum, filled}
+use Rattle.exact.specs.Rows.{places, at, sum}
 use Rattle.exact.proofs.Cases.{cases, eq_or_ne}
-use Rattle.exact.proofs.RowLaws.{sum_cong, filled_at, filled_length, filled_drop, filled_over, table_take}
+use Rattle.exact.proofs.RowLaws.{sum_cong, filled_at, filled_length, filled_drop, filled_over, filled_from}
 use Rattle.book.specs.Checks.{on, refusal}
 use Rattle.book.specs.layouts.Allowed.{allowed}
 use Rattle.book.specs.rules.Kinds.{period_of, is_open, is_purse, purse_of, purse_cents}
@@ -37,12 +37,12 @@ module _ (n : ℕ) (pays words : List ℕ) where
 -- where the first n words are filled with 0, nothing is paid
 pub nothing_paid : (n : ℕ) (words front : List ℕ) → n ≤ places → n ≤ length words → front ≡ replicate (length (take n words)) 0
     → front ++ drop n words ≡ payout_words n (zeros places) words
-unfolding payout_words filled zeros
+unfolding payout_words zeros
 nothing_paid n words front few enough is =
     let long : n ≤ length {A = ℕ} (replicate places 0) = omega (arith, length-replicate {A = ℕ} places 0, few) in
     let size : length (take n words) ≡ n = omega (arith, length-take n words, enough) in
-    ap (λ (l : List ℕ). l ++ drop n words)
-    (is ∙ ap (λ k. replicate k 0) size ∙ sym (take-replicate n places 0 few) ∙ sym (table_take (replicate places 0) n long))
+    ap (λ (l : List ℕ). l ++ drop n words) (is ∙ ap (λ k. replicate k 0) size ∙ sym (take-replicate n places 0 few))
+    ∙ sym (filled_from (replicate places 0) words n long)
 
 -- an entry that is lent words v, and one that is lent words w
 module _ (s : State) (e : Entry) (v w : List ℕ) (a : AgreeFrom s.n v w) where

@@ -1,10 +1,10 @@
 use borrow.Author.Rules.{rules}
 use Prim.Native.Nat.{ℕ, ◌+◌, ◌≤◌, ◌<◌}
-use mathlib.Core.Path.{◌≡◌}
+use mathlib.Core.Path.{◌≡◌, ◌∙◌}
 use mathlib.Core.List.{List}
 use native.Mathlib.Omega.{arith}
 use Rattle.exact.specs.Rows.{at, sum, cells}
-use Rattle.exact.proofs.RowLaws.{holds}
+use Rattle.exact.proofs.RowLaws.{filled_cells, holds}
 use Rattle.settlement.specs.Groups.{group_count, group_sum, outside_sum}
 use Rattle.settlement.proofs.GroupLaws.{group_outside}
 use Rattle.settlement.proofs.groups.outside_sums.Goals as goal
@@ -21,7 +21,6 @@ cells-requires c =
     search rules
 
 pub returns : goal.returns
-unfolding cells
 returns c = c.cells.ensures _ (λ k r h p.
     let whole = parts _ _ _ _ _ c.group_sums-inside.ensures c.total-whole.ensures k h in
-    search (rules, arith))
+    search (rules, arith)) ∙ filled_cells _ _

@@ -1,7 +1,8 @@
 use borrow.Author.Rules.{rules}
 use Prim.Native.Nat.{ℕ, ◌*◌, ◌<◌, min}
-use mathlib.Core.Path.{◌≡◌}
-use Rattle.exact.specs.Rows.{at, cells}
+use mathlib.Core.Path.{◌≡◌, ◌∙◌}
+use Rattle.exact.specs.Rows.{at}
+use Rattle.exact.proofs.RowLaws.{filled_cells}
 use Rattle.exact.specs.Division.{ceil_div, Proportional}
 use Rattle.settlement.specs.Rounds.{loss}
 use Rattle.settlement.proofs.LossLaws.{loss_own, loss_proportional}
@@ -15,9 +16,8 @@ cells-requires c =
     search rules
 
 pub returns : goal.returns
-unfolding cells
 returns c = c.cells.ensures _ (λ i r h p.
     let x = c.args in
     let own : loss x.n (at x.revised) (at x.balances) x.negative i ≡ min (at x.balances i) (ceil_div (x.negative * at x.revised i) x.positive) =
     rw c.requires.1 (loss_own x.n (at x.revised) (at x.balances) x.negative i) in
-    search rules)
+    search rules) ∙ filled_cells _ _
