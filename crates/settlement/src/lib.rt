@@ -1,5 +1,5 @@
 // One month in whole cents: retention and payable amounts at notice, settlement with its rounds, and late money.
-#![tactic(auto, unfolding(exact::specs::Rows::cells))]
+#![tactic(auto)]
 
 mod claims;
 mod groups;
