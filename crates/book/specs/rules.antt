@@ -8,6 +8,7 @@ pub mod Step
 pub mod Words
 pub mod Records
 pub mod Insides
+pub mod Holders
 pub mod Valid
 pub mod Stays
 pub mod Washups

@@ -12,6 +12,7 @@ use crate::allowed::Allowed;
 use crate::feed::read_next;
 use crate::lines::{LINE, put_line};
 use crate::reader::Found;
+use std::marker::Model;
 
 // What a run leaves: the book, the place of the next entry, and how many words of lines it wrote.
 #[derive(Clone, Copy)]
@@ -19,6 +20,18 @@ pub struct Ran {
     pub book: Book,
     pub place: usize,
     pub wrote: usize,
+}
+
+// A caller may hand it on by value and use it again, as it may a book: its record has all of its fields.
+impl Model for Ran {
+    ghost use Rattle.book.specs.rules.Records.{RanRecord};
+    ghost use Rattle.book.specs.rules.Holders.{ran_of, ran_inside};
+
+    ghost Value = { RanRecord };
+
+    ghost view = { ran_of };
+
+    ghost inverse = { ran_inside };
 }
 
 // Sets the first n payout words to 0 where an entry was accepted.

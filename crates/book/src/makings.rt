@@ -12,6 +12,7 @@ use crate::limits::{Limits, is_within};
 use crate::{Book, PERIOD_PLACES, Period};
 use exact::{PLACES, cells};
 use settlement::{GROUPS, Grouping, is_grouping_allowed};
+use std::marker::Model;
 
 // The number of participants, their groups with the groups' reserves, and the limits of the book. Group numbers from n on are
 // not looked at.
@@ -27,6 +28,18 @@ pub struct Making {
 pub struct Made {
     pub answer: Answer,
     pub book: Book,
+}
+
+// A caller may hand it on by value and use it again, as it may a book: its record has all of its fields.
+impl Model for Made {
+    ghost use Rattle.book.specs.rules.Answers.{MadeRecord};
+    ghost use Rattle.book.specs.rules.Holders.{made_of, made_inside};
+
+    ghost Value = { MadeRecord };
+
+    ghost view = { made_of };
+
+    ghost inverse = { made_inside };
 }
 
 // Each participant in a group of its own, and no reserves, in a book of these limits.

@@ -14,6 +14,7 @@ use crate::allowed::Allowed;
 use crate::answers::{Answer, Refusal};
 use crate::entries::Entry;
 use crate::{Book, Period};
+use std::marker::Model;
 
 // The answer to an entry, the rounds of a settlement, and the book that it leaves: a refused call hands its book back too.
 #[derive(Clone, Copy)]
@@ -21,6 +22,18 @@ pub struct Applied {
     pub answer: Answer,
     pub rounds: u64,
     pub book: Book,
+}
+
+// A caller may hand it on by value and use it again, as it may a book: its record has all of its fields.
+impl Model for Applied {
+    ghost use Rattle.book.specs.rules.Answers.{AppliedRecord};
+    ghost use Rattle.book.specs.rules.Holders.{applied_of, applied_inside};
+
+    ghost Value = { AppliedRecord };
+
+    ghost view = { applied_of };
+
+    ghost inverse = { applied_inside };
 }
 
 // What an accepted entry did: the rounds of a settlement, and the cents paid. `Entered` and `NamedAt` below are asked of callers, and

@@ -1,9 +1,9 @@
 -- How the book's answers read: 01's and 02's number for each, and the values of the answer to an entry.
 use Rattle.std.specs.Prelude.{ℕ, List, Result, Ok, Err}
+use Rattle.book.specs.rules.Records.{BookRecord}
 use Rattle.book.specs.rules.Step.{Reply}
 use Rattle.book.specs.declared.answers.Refusal.{Refusal}
 use Rattle.book.specs.declared.answers.Refusal.TheVariants.{Outside, NoParticipants, FewWords, NotAbove, Full, NotInBook, WrongStage, Unequal, PastBound, NotAParticipant, TooMuch, EarlierArrears, PursePastBound, Misdated}
-use Rattle.book.specs.declared.steps.Applied.{Applied}
 
 -- acceptance, or why an entry or a making is refused
 abbrev pub Answer : Type 0
@@ -26,6 +26,16 @@ number_of (Err EarlierArrears) = 14
 number_of (Err PursePastBound) = 15
 number_of (Err Misdated) = 16
 
+-- what the making of a book answers, and what an entry does, as contracts see them
+pub record MadeRecord : Type 0 where
+  pub answer : Answer
+  pub book : BookRecord
+
+pub record AppliedRecord : Type 0 where
+  pub answer : Answer
+  pub rounds : ℕ
+  pub book : BookRecord
+
 -- the answer to an entry, with the payout words as it leaves them
-abbrev pub replied : Applied → List ℕ → Reply
+abbrev pub replied : AppliedRecord → List ℕ → Reply
 replied r words = record { answer = number_of r.answer; rounds = r.rounds; book = r.book; words = words }

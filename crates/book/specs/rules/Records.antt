@@ -1,4 +1,4 @@
--- The record that the program keeps of a book, which contracts see for it.
+-- The record that the program keeps of a book, which contracts see for it, and what a run of the book leaves.
 use Rattle.std.specs.Prelude.{ℕ, List}
 use Rattle.settlement.specs.declared.groups.Grouping.{Grouping}
 use Rattle.book.specs.declared.limits.Limits.{Limits}
@@ -13,3 +13,8 @@ pub record BookRecord : Type 0 where
   pub held : ℕ
   pub periods : List Period
   pub purses : List ℕ
+
+pub record RanRecord : Type 0 where
+  pub book : BookRecord
+  pub place : ℕ
+  pub wrote : ℕ
