@@ -1,7 +1,7 @@
 // Inputs and outputs. The fields of a stream are private: only these functions count bytes, or say that an input ended or
 // failed. A caller makes each stream once, and hands each call the reader or writer that it was made for.
 ghost use Rattle.std.specs.Prelude.{◌+◌, ◌^◌, ◌≤◌, ◌<◌, min, ◌≡◌, true, length, take};
-ghost use Rattle.text.specs.Streams.{most, is_ended, is_failed, last_of, Fetches};
+ghost use Rattle.text.specs.Streams.{most, is_ended, is_failed, last_of, came, Fetches};
 ghost use Rattle.text.specs.declared.streams.Last.TheVariants.{More};
 
 use crate::buffers::Buffer;
@@ -63,11 +63,12 @@ pub struct Fetched {
     pub filled: usize,
 }
 
-// The input after a read that answered `got`, and that brought so many bytes behind the first `filled`.
-fn taken(i: Input, got: io::Result<usize>, filled: usize, more: usize) -> Fetched
-    requires { filled + more < 2 ^ 64 }
-    ensures { result ≡ record { input = record { total = min (i.total + more) most; last = last_of got }; filled = filled + more } }
+// An input after a read behind the first `filled` bytes, which answered `got`.
+fn taken(i: Input, got: io::Result<usize>, filled: usize) -> Fetched
+    requires { filled + came got < 2 ^ 64 }
+    ensures { result ≡ record { input = record { total = min (i.total + came got) most; last = last_of got }; filled = filled + came got } }
 {
+    let more = got.unwrap_or(0);
     Fetched {
         input: Input {
             total: counted(i.total, more),
@@ -86,8 +87,7 @@ pub fn read_more<R: Read>(from: &mut R, i: Input, block: &mut [u8], filled: usiz
     ensures reads { Fetches i.total (take filled block.old) result.input (take result.filled block.new) }
 {
     let got = from.read(&mut block[filled..]);
-    let more = got.unwrap_or(0);
-    taken(i, got, filled, more)
+    taken(i, got, filled)
 }
 
 impl Input {
