@@ -1,12 +1,8 @@
 -- Laws of slices' first cells.
-use Prim.Native.Nat.{ℕ, zero, suc, ◌+◌, ◌*◌, ◌≤◌, ◌<◌, min}
+use Prim.Native.Nat.{ℕ, zero, suc, ◌+◌, ◌*◌, ◌≤◌, ◌<◌}
 use mathlib.Core.Path.{◌≡◌, sym, ap, ◌∙◌}
 use mathlib.Core.List.{List}
 use native.Mathlib.Omega.{arith}
-use native.Mathlib.Numerals.{add-one}
-use lib.ListN.{length, take}
-use Rattle.std.specs.List.{fold}
-use Rattle.std.proofs.lemmas.List.Sums.{fold_more}
 use lib.Seq.{get_or-take}
 use Rattle.exact.specs.Rows.{at, sum}
 use Rattle.exact.proofs.RowLaws.{sum_none, sum_suc, sum_more, sum_cong, Holds}
@@ -39,11 +35,3 @@ flat_sum a (suc n) =
 -- an array of a slice's first cells holds the row in it
 pub front_holds : {a : List ℕ} (count : ℕ) (s : List ℕ) (n : ℕ) → a ≡ front count s → Holds a (at (front count s)) n
 front_holds count s n e = record { reads = λ i _. ap (λ (l : List ℕ). at l i) e }
-
--- a sum that is cut off at a limit cell by cell, below what a word holds
-pub cut_sum : (s : List ℕ) (word limit : ℕ) → limit ≤ word → (n : ℕ) → n ≤ length s
-    → fold (λ t x. min (min (t + x) word) limit) 0 (take n s) ≡ min (sum (at s) n) limit
-cut_sum s word limit l zero h = omega (arith, sum_none (at s))
-cut_sum s word limit l (suc n) h =
-    rw (← add-one n, fold_more (λ (t x : ℕ). min (min (t + x) word) limit) 0 s n 0 (omega arith), cut_sum s word limit l n (omega arith))
-    (omega (arith, sum_more (at s) n))

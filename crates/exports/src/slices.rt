@@ -11,10 +11,15 @@ pub fn side_total(s: &[u64], count: usize) -> u64
     requires { count ≤ length s.now }
     ensures { result ≡ min (sum (at s.now) count) (side_limit + 1) }
 {
-    s[..count].iter().fold(
-        0,
-        |total: u64, cents| total.saturating_add(*cents).min(SIDE_LIMIT + 1),
-    )
+    let mut room = SIDE_LIMIT;
+    // A loop that leaves at the cell that passes the limit: a fold would go through all of them.
+    for cents in &s[..count] {
+        if room < *cents {
+            return SIDE_LIMIT + 1;
+        }
+        room -= *cents;
+    }
+    SIDE_LIMIT - room
 }
 
 // The first cells, as many as the array takes.

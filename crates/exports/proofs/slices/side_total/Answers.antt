@@ -1,15 +1,24 @@
-use borrow.Author.Rules.{rules}
-use Prim.Native.Nat.{◌+◌, ◌-◌, ◌^◌, min}
-use mathlib.Core.Path.{◌≡◌, ◌∙◌}
+use Prim.Native.Nat.{◌+◌}
 use native.Mathlib.Omega.{arith}
-use lib.ListN.{take}
-use Rattle.std.specs.List.{fold}
-use Rattle.settlement.specs.Month.{side_limit}
-use Rattle.exports.proofs.SliceLaws.{cut_sum}
+use Rattle.std.proofs.lemmas.List.{get_or-take, length-take}
+use Rattle.exact.specs.Rows.{at}
+use Rattle.exact.proofs.RowLaws.{sum_none, sum_more, sum_part}
 use Rattle.exports.proofs.slices.side_total.Goals as goal
 
-pub returns : goal.returns
-returns c =
+pub loop-cents-init : goal.loop-cents-init
+loop-cents-init c = omega (arith, sum_none (at c.args.s.now))
+
+pub returns-then-room-cents : goal.returns-then-room-cents
+returns-then-room-cents c =
     let x = c.args in
-    let e : c.fold.result ≡ fold (λ t y. min (min (t + y) (2 ^ 64 - 1)) (side_limit + 1)) 0 (take x.count x.s.now) = search rules in
-    e ∙ cut_sum x.s.now (2 ^ 64 - 1) (side_limit + 1) (omega arith) x.count c.requires
+    let f = at x.s.now in
+    let i = c.loop-cents.cents-index in
+    let within = length-take x.count x.s.now in
+    omega (arith, c.if-room-cents.true, get_or-take x.count x.s.now i 0 (omega arith), sum_more f i, sum_part f (i + 1) x.count (omega arith))
+
+pub loop-cents-preserved : goal.loop-cents-preserved
+loop-cents-preserved c =
+    let x = c.args in
+    let i = c.loop-cents.cents-index in
+    let within = length-take x.count x.s.now in
+    omega (arith, c.if-room-cents.false, get_or-take x.count x.s.now i 0 (omega arith), sum_more (at x.s.now) i)
