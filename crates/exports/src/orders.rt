@@ -22,9 +22,9 @@ fn owing_in_order(to: &[u64], n: usize, room: usize) -> bool
 }
 
 // Whether each of the first n cells is at most the other row's.
-fn each_at_most(a: Row, b: Row, n: usize) -> bool
+fn each_at_most(a: &Row, b: &Row, n: usize) -> bool
     requires { n ≤ places }
-    ensures { result ≡ list_all (λ p. leb p.0 p.1) (zip (take n a) (take n b)) }
+    ensures { result ≡ list_all (λ p. leb p.0 p.1) (zip (take n a.now) (take n b.now)) }
 {
     a[..n].iter().zip(b[..n].iter()).all(|(x, y)| *x <= *y)
 }
@@ -65,7 +65,7 @@ impl<'a> LentMonth<'a> {
             return None;
         }
         let payable = self.notice().payable;
-        each_at_most(front(received), payable, self.n).then_some(payable)
+        each_at_most(&front(received), &payable, self.n).then_some(payable)
     }
 }
 
@@ -86,8 +86,11 @@ pub fn late_money_in_order(
     }
     let owing = over_tiers(front(to), n);
     let claims = front(claims);
+    if !each_at_most(&claims, &owing, n) {
+        return false;
+    }
     let paid = front(paid);
-    if !each_at_most(claims, owing, n) || !each_at_most(paid, claims, n) {
+    if !each_at_most(&paid, &claims, n) {
         return false;
     }
     money <= total(excesses(claims, paid, n), n)

@@ -1,26 +1,34 @@
 // The walk through the tiers: money meets them in order, in settlement and with late money alike.
-ghost use Rattle.std.specs.Prelude.{◌≡◌, ◌≤◌};
+ghost use Rattle.std.specs.Prelude.{◌≡◌, ℕ, ◌+◌, ◌^◌, ◌≤◌, ◌<◌};
 ghost use Rattle.exact.specs.Rows.{places, at, sum, cells};
 ghost use Rattle.settlement.specs.Month.{side_limit, tier_at, over_tiers};
 ghost use Rattle.settlement.specs.Tiers.{share, met};
 
 use crate::owing::{TIERS, TierCells, tier};
 use crate::sharing::share_by_weight;
-use exact::{PLACES, Row, sums, total};
+use exact::{PLACES, Row, total};
 
-// What a tier gives each of n participants of the money left, where `whole` is its total: all that it wants where it can be met,
-// else shares by what it wants.
-fn tier_share(wanted: Row, left: u64, whole: u64, n: usize) -> Row
-    requires { (n ≤ places) × (whole ≡ sum (at wanted) n) × (whole ≤ side_limit) × (wanted ≡ cells (at wanted) n) }
-    ensures { result ≡ cells (share n (at wanted) left) n }
+// Adds to what each of n participants has what it gets here. In place, here and below: a new row for each tier would be copied.
+fn add_shares(out: &mut Row, shares: &Row, n: usize)
+    requires { (n ≤ places) × (out.old ≡ cells (at out.old) n) × ((i : ℕ) → i < n → at out.old i + at shares.now i < 2 ^ 64) }
+    ensures { out.new ≡ cells (λ i. at out.old i + at shares.now i) n }
 {
+    for (i, cents) in out[..n].iter_mut().enumerate() {
+        *cents += shares[i];
+    }
+}
+
+// Adds to what each of n participants has what a tier gives it of the money left, where `whole` is its total: all that it wants
+// where it can be met, else shares by what it wants.
+fn tier_share(out: &mut Row, wanted: &Row, left: u64, whole: u64, n: usize)
+    requires { (n ≤ places) × (whole ≡ sum (at wanted.now) n) × (whole ≤ side_limit) × (out.old ≡ cells (at out.old) n) × ((i : ℕ) → i < n → at out.old i + share n (at wanted.now) left i < 2 ^ 64) }
+    ensures { out.new ≡ cells (λ i. at out.old i + share n (at wanted.now) left i) n }
+{
+    // Where nothing is left, every share is 0, and no division is needed to find that.
     if whole <= left {
-        wanted
-    } else if left == 0 {
-        // Nothing is left: every share is 0, and no division is needed to find that.
-        [0u64; PLACES]
-    } else {
-        share_by_weight(wanted, left, whole, n)
+        add_shares(out, wanted, n);
+    } else if 0 < left {
+        add_shares(out, &share_by_weight(*wanted, left, whole, n), n);
     }
 }
 
@@ -35,10 +43,7 @@ pub fn meet_tiers(wanted: TierCells, money: u64, n: usize) -> Row
     for t in 0..TIERS {
         let row = tier(&wanted, t, n);
         let whole = total(row, n);
-        let shares = tier_share(row, left, whole, n);
-        // By `next`: tried without it, and the check covers no call whose result is put straight into a local whose type is an array.
-        let next = sums(out, shares, n);
-        out = next;
+        tier_share(&mut out, &row, left, whole, n);
         left = left.saturating_sub(whole);
     }
     out

@@ -13,7 +13,6 @@ use Rattle.exports.proofs.EachLaws.{each_tested, each_excess}
 use Rattle.exports.proofs.OrderLaws.{tiers_fitting, last_test}
 use Rattle.exports.proofs.SliceLaws.{front_holds}
 use Rattle.exports.proofs.orders.late_money_in_order.Goals as goal
-use Rattle.exports.proofs.orders.late_money_in_order.Goals.{then-not-each_at_most-via-then-not-each_at_most, then-not-each_at_most-via-else-not-each_at_most+then-not-each_at_most-2}
 
 -- the first test is of the side owing to participants
 tiers_tested : (n : ℕ) (to claims paid : List ℕ) (room : ℕ) {b : Bool} {inner outer : ℕ}
@@ -44,7 +43,7 @@ over_tiers-owing-requires c =
     let k = (tiers_fitting _ _ _ (sym c.owing_in_order.ensures ∙ c.if-not-owing_in_order.false)).sound in
     (k.few, λ i h. rw c.front.ensures (omega (arith, k.total, sum_term (owing_of a.to.now) a.n i h)))
 
--- the second test is of the claims and what is owing, the third of what was paid and the claims
+-- the second test is of the claims and what is owing
 pub returns-then-not-each_at_most : goal.returns-then-not-each_at_most
 unfolding all_of late_money_in_order
 returns-then-not-each_at_most c =
@@ -53,15 +52,24 @@ returns-then-not-each_at_most c =
     let few = (tiers_fitting _ _ _ passed).sound.few in
     let first = tiers_tested a.n a.to.now a.claims.now a.paid.now a.room c.owing_in_order.ensures c.min-2.ensures c.min.ensures in
     let claims = front_holds _ _ a.n c.front-claims.ensures in
+    let owing = owing_holds a.n a.to.now c.over_tiers-owing.ensures c.front.ensures in
+    let second = c.each_at_most.ensures ∙ each_tested _ _ a.n (omega (arith, few)) (omega (arith, few)) claims owing in
+    simp (sym first ∙ c.if-not-owing_in_order.false, sym second ∙ c.if-not-each_at_most.true)
+
+-- the third is of what was paid and the claims
+pub returns-then-not-each_at_most-2 : goal.returns-then-not-each_at_most-2
+unfolding all_of late_money_in_order
+returns-then-not-each_at_most-2 c =
+    let a = c.args in
+    let passed = sym c.owing_in_order.ensures ∙ c.if-not-owing_in_order.false in
+    let few = (tiers_fitting _ _ _ passed).sound.few in
+    let first = tiers_tested a.n a.to.now a.claims.now a.paid.now a.room c.owing_in_order.ensures c.min-2.ensures c.min.ensures in
+    let claims = front_holds _ _ a.n c.front-claims.ensures in
     let paid = front_holds _ _ a.n c.front-paid.ensures in
     let owing = owing_holds a.n a.to.now c.over_tiers-owing.ensures c.front.ensures in
     let second = c.each_at_most.ensures ∙ each_tested _ _ a.n (omega (arith, few)) (omega (arith, few)) claims owing in
-    elim c.then-not-each_at_most.branch [
-      | then-not-each_at_most-via-then-not-each_at_most w ↦ simp (sym first ∙ c.if-not-owing_in_order.false, sym second ∙ w.if-not-each_at_most.true)
-      | then-not-each_at_most-via-else-not-each_at_most+then-not-each_at_most-2 w ↦
-          let third = w.each_at_most-else-not-each_at_most.ensures ∙ each_tested _ _ a.n (omega (arith, few)) (omega (arith, few)) paid claims in
-          simp (sym first ∙ c.if-not-owing_in_order.false, sym second ∙ w.if-not-each_at_most.false, sym third ∙ w.if-not-each_at_most-2.true)
-    ]
+    let third = c.each_at_most-2.ensures ∙ each_tested _ _ a.n (omega (arith, few)) (omega (arith, few)) paid claims in
+    simp (sym first ∙ c.if-not-owing_in_order.false, sym second ∙ c.if-not-each_at_most.false, sym third ∙ c.if-not-each_at_most-2.true)
 
 pub total-requires : goal.total-requires
 total-requires c =
@@ -84,7 +92,7 @@ returns c =
     let paid = front_holds _ _ a.n c.front-paid.ensures in
     let owing = owing_holds a.n a.to.now c.over_tiers-owing.ensures c.front.ensures in
     let second = c.each_at_most.ensures ∙ each_tested _ _ a.n (omega (arith, few)) (omega (arith, few)) claims owing in
-    let third = c.each_at_most-else-not-each_at_most.ensures ∙ each_tested _ _ a.n (omega (arith, few)) (omega (arith, few)) paid claims in
+    let third = c.each_at_most-2.ensures ∙ each_tested _ _ a.n (omega (arith, few)) (omega (arith, few)) paid claims in
     let unpaid = unpaid_sum a.n a.claims.now a.paid.now c.excesses.ensures c.front-paid.ensures c.front-claims.ensures in
     simp (sym first ∙ c.if-not-owing_in_order.false, sym second ∙ c.if-not-each_at_most.false, sym third ∙ c.if-not-each_at_most-2.false)
     (rw (c.total.ensures, unpaid) (last_test _))
