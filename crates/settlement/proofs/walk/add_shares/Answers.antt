@@ -5,7 +5,7 @@ use native.Mathlib.Omega.{arith}
 use lib.ListN.{length, take, drop, replicate}
 use Rattle.std.proofs.lemmas.List.{get_or-take, get_or-drop, length-take}
 use Rattle.exact.specs.Rows.{places, at, filled, cells}
-use Rattle.exact.proofs.RowLaws.{filled_none, filled_more, filled_take, filled_drop, filled_over}
+use Rattle.exact.proofs.RowLaws.{filled_none, filled_more, filled_take, filled_drop, filled_over, filled_cells}
 use Rattle.settlement.proofs.walk.add_shares.Goals as goal
 
 -- before its turn a cell is as it was
@@ -19,8 +19,7 @@ at_turn f d n i h =
 
 -- a row that is put over another of as many participants
 over : (f g : ℕ → ℕ) (n : ℕ) {out : List ℕ} → out ≡ cells g n → filled f n out ≡ cells f n
-unfolding cells
-over f g n o = filled_over f n _ _ (ap (drop n) o ∙ filled_drop g n (replicate places 0))
+over f g n o = filled_over f n _ _ (ap (drop n) (o ∙ sym (filled_cells g n)) ∙ filled_drop g n (replicate places 0)) ∙ filled_cells f n
 
 pub loop-i-init : goal.loop-i-init
 loop-i-init c = filled_none _ _
