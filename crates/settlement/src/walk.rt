@@ -2,6 +2,7 @@
 ghost use Rattle.std.specs.Prelude.{◌≡◌, ℕ, ◌+◌, ◌^◌, ◌≤◌, ◌<◌};
 ghost use Rattle.exact.specs.Rows.{places, at, sum, cells};
 ghost use Rattle.settlement.specs.Month.{side_limit, tier_at, over_tiers};
+ghost use Rattle.settlement.specs.Sharing.{share_by_weight, Shareable};
 ghost use Rattle.settlement.specs.Tiers.{share, met};
 
 use crate::owing::{TIERS, TierCells, tier};
@@ -18,6 +19,16 @@ fn add_shares(out: &mut Row, shares: &Row, n: usize)
     }
 }
 
+// Adds to what each of n participants has its share by weight of the money left for a tier that cannot be met. By itself, so that
+// no row for shares is filled where a tier is met.
+fn add_by_weight(out: &mut Row, wanted: &Row, left: u64, whole: u64, n: usize)
+    requires { (n ≤ places) × (whole ≤ side_limit) × Shareable (at wanted.now) left whole n × (out.old ≡ cells (at out.old) n) × ((i : ℕ) → i < n → at out.old i + share_by_weight (at wanted.now) left whole n i < 2 ^ 64) }
+    ensures { out.new ≡ cells (λ i. at out.old i + share_by_weight (at wanted.now) left whole n i) n }
+{
+    let shares = share_by_weight(*wanted, left, whole, n);
+    add_shares(out, &shares, n);
+}
+
 // Adds to what each of n participants has what a tier gives it of the money left, where `whole` is its total: all that it wants
 // where it can be met, else shares by what it wants.
 fn tier_share(out: &mut Row, wanted: &Row, left: u64, whole: u64, n: usize)
@@ -28,7 +39,7 @@ fn tier_share(out: &mut Row, wanted: &Row, left: u64, whole: u64, n: usize)
     if whole <= left {
         add_shares(out, wanted, n);
     } else if 0 < left {
-        add_shares(out, &share_by_weight(*wanted, left, whole, n), n);
+        add_by_weight(out, wanted, left, whole, n);
     }
 }
 

@@ -1,12 +1,11 @@
 use Prim.Native.Nat.{ℕ, ◌+◌, ◌≤◌, ◌<◌}
 use mathlib.Core.Path.{◌≡◌, sym, ap, ◌∙◌}
-use mathlib.Core.List.{List}
 use native.Mathlib.Omega.{arith}
-use Rattle.exact.specs.Rows.{at, sum, cells}
-use Rattle.exact.proofs.RowLaws.{cells_cong, cells_at}
+use Rattle.exact.specs.Rows.{at, sum}
+use Rattle.exact.proofs.RowLaws.{cells_cong}
 use Rattle.settlement.specs.Sharing.{share_by_weight}
 use Rattle.settlement.specs.Tiers.{share}
-use Rattle.settlement.proofs.TierLaws.{share_met, share_unmet, share_nothing}
+use Rattle.settlement.proofs.TierLaws.{share_met, share_unmet, share_nothing, unmet_shareable}
 use Rattle.settlement.proofs.walk.tier_share.Goals as goal
 
 module _ (n : ℕ) (f : ℕ → ℕ) {whole left : ℕ} (w : whole ≡ sum f n) where
@@ -14,16 +13,16 @@ module _ (n : ℕ) (f : ℕ → ℕ) {whole left : ℕ} (w : whole ≡ sum f n) 
   met : whole ≤ left → (i : ℕ) → f i ≡ share n f left i
   met h i = sym (share_met n f left (rw w at h) i)
 
-  unmet : left < whole → {row : List ℕ} → row ≡ cells (share_by_weight f left whole n) n → (i : ℕ) → i < n → at row i ≡ share n f left i
-  unmet h e i k = rw (e, cells_at _ n i k, w) (sym (share_unmet n f left (rw w at h) i))
+  unmet : left < whole → (i : ℕ) → share_by_weight f left whole n i ≡ share n f left i
+  unmet h i = rw w (sym (share_unmet n f left (rw w at h) i))
 
 pub add_shares-requires : goal.add_shares-requires
 add_shares-requires c =
     (c.requires.0, c.requires.3, λ i h. omega (arith, met _ _ c.requires.1 c.if-whole-left.true i, c.requires.4 i h))
 
-pub add_shares-requires-then-left-gt0 : goal.add_shares-requires-then-left-gt0
-add_shares-requires-then-left-gt0 c =
-    (c.requires.0, c.requires.3, λ i h. omega (arith, unmet _ _ c.requires.1 c.if-whole-left.false c.share_by_weight.ensures i h, c.requires.4 i h))
+pub add_by_weight-requires : goal.add_by_weight-requires
+add_by_weight-requires c =
+    (c.requires.0, c.requires.2, rw c.requires.1 (unmet_shareable _ _ _ (rw c.requires.1 at c.if-whole-left.false)), c.requires.3, λ i h. omega (arith, unmet _ _ c.requires.1 c.if-whole-left.false i, c.requires.4 i h))
 
 pub returns-then-whole-left : goal.returns-then-whole-left
 returns-then-whole-left c =
@@ -31,8 +30,7 @@ returns-then-whole-left c =
 
 pub returns-then-left-gt0 : goal.returns-then-left-gt0
 returns-then-left-gt0 c =
-    c.add_shares-then-left-gt0.ensures
-    ∙ cells_cong _ _ _ (λ i h. ap (λ z. at c.args.out.now i + z) (unmet _ _ c.requires.1 c.if-whole-left.false c.share_by_weight.ensures i h))
+    c.add_by_weight.ensures ∙ cells_cong _ _ _ (λ i _. ap (λ z. at c.args.out.now i + z) (unmet _ _ c.requires.1 c.if-whole-left.false i))
 
 pub returns-else-left-gt0 : goal.returns-else-left-gt0
 returns-else-left-gt0 c =
