@@ -1,5 +1,6 @@
 // Inputs and outputs. The fields of a stream are private: only these functions count bytes, or say that an input ended or
-// failed. A caller makes each stream once, and hands each call the reader or writer that it was made for.
+// failed. A caller makes each stream once, and hands each call the stream as the call before left it, with the reader or writer
+// that it was made for.
 ghost use Rattle.std.specs.Prelude.{◌+◌, ◌^◌, ◌≤◌, ◌<◌, min, ◌≡◌, true, length, take};
 ghost use Rattle.text.specs.Streams.{most, is_ended, is_failed, last_of, came, Fetches};
 ghost use Rattle.text.specs.declared.streams.Last.TheVariants.{More};
