@@ -8,18 +8,18 @@ use lib.Seq.{drop-drop}
 use Rattle.text.specs.Slices.{kept}
 
 -- what a copy into a part leaves
-pub put_part : (out bytes part : List ℕ) (place count : ℕ) → place + length bytes ≤ length out → count ≡ length bytes → part ≡ bytes
-    → put_mid place count out part ≡ sets out place bytes
-put_part out bytes part place count h e q = rw (e, q, sets-eq bytes out place h, append_assoc, drop-drop)
+pub put_part : (out bytes part : List ℕ) (start place count : ℕ) → start ≡ place → place + length bytes ≤ length out → count ≡ length bytes → part ≡ bytes
+    → put_mid start count out part ≡ sets out place bytes
+put_part out bytes part start place count s h e q = rw (s, e, q, sets-eq bytes out place h, append_assoc, drop-drop)
 
 -- what is put behind the first bytes stands behind them
-pub put_behind : (room bytes : List ℕ) (place : ℕ) → place + length bytes ≤ length room
-    → take (place + length bytes) (sets room place bytes) ≡ take place room ++ bytes
-put_behind room bytes place h =
-    let front : List ℕ = take place room ++ bytes in
-    let rest : List ℕ = drop (place + length bytes) room in
-    let e : length front ≡ place + length bytes = omega (arith, length-append (take place room) bytes, length-take-le place room (omega arith)) in
-    ap (take (place + length bytes)) (sets-eq bytes room place h) ∙ take_at front rest (place + length bytes) e
+pub put_behind : (room bytes : List ℕ) (place len end : ℕ) → place ≡ len → end ≡ len + length bytes → len + length bytes ≤ length room
+    → take end (sets room place bytes) ≡ take len room ++ bytes
+put_behind room bytes place len end p e h =
+    let front : List ℕ = take len room ++ bytes in
+    let rest : List ℕ = drop (len + length bytes) room in
+    let n : length front ≡ len + length bytes = omega (arith, length-append (take len room) bytes, length-take-le len room (omega arith)) in
+    rw (p, e) (ap (take (len + length bytes)) (sets-eq bytes room len h) ∙ take_at front rest (len + length bytes) n)
 
 -- what was kept stands in front
 pub kept_front : (block : List ℕ) (from to : ℕ) → to ≤ length block → take (to - from) (kept block from (to - from)) ≡ drop from (take to block)
